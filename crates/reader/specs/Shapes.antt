@@ -1,0 +1,52 @@
+-- The form of a part or a goal: "every sign that the rules show around the letters", and the class of what has no sign.
+use Prim.Native.Nat.{ℕ}
+use mathlib.Core.List.{List, [], _∷_}
+use mathlib.Core.Bool.{Bool, true, false}
+use lib.Dec.{eqb}
+use Rattle.reader.specs.Tests.{both}
+use Rattle.reader.specs.Kinds.{class}
+use Rattle.reader.specs.Trees.{Tree, kindOf, firstOf}
+
+pub data Shape : Type 0 where
+  ofClass : ℕ → Shape
+  ofKind : ℕ → Shape
+  negated : Shape → Shape
+
+abbrev pub type : Shape
+type = ofClass 3
+
+abbrev pub term : Shape
+term = ofClass 4
+
+abbrev pub formula : Shape
+formula = ofClass 5
+
+abbrev pub constant : Shape
+constant = ofKind 7
+
+abbrev pub conjunction : Shape
+conjunction = ofKind 16
+
+abbrev pub implication : Shape
+implication = ofKind 17
+
+abbrev pub universal : Shape
+universal = ofKind 19
+
+abbrev pub equation : Shape
+equation = ofKind 20
+
+abbrev pub forAllTypes : Shape
+forAllTypes = ofKind 22
+
+unfoldable pub hasShape : Shape → Tree → Bool
+hasShape (ofClass c) t = eqb (class (kindOf t)) c
+hasShape (ofKind k) t = eqb (kindOf t) k
+hasShape (negated s) t = both (eqb (kindOf t) 18) (hasShape s (firstOf t))
+
+-- "number, class or form of parts": the trees have the shapes, one by one
+unfoldable pub haveShapes : List Shape → List Tree → Bool
+haveShapes [] [] = true
+haveShapes [] (t ∷ ts) = false
+haveShapes (s ∷ ss) [] = false
+haveShapes (s ∷ ss) (t ∷ ts) = elim (hasShape s t) [ true ↦ haveShapes ss ts | false ↦ false ]
