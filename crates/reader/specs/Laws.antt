@@ -8,8 +8,8 @@ use native.Mathlib.Omega.{arith}
 use borrow.Author.Tests.{ltb-true, eqb-true, eq-eqb}
 use Rattle.reader.specs.Words.{Reader}
 use Rattle.reader.specs.Down.{Local, down-zero, down-step}
-use Rattle.reader.specs.Tests.{both}
-use Rattle.reader.specs.Kinds.{role}
+use Rattle.reader.specs.Tests.{both, ifLt}
+use Rattle.reader.specs.At.{roleAt}
 use Rattle.reader.specs.Trees.{Tree, leaf, node, lower, child, atom, treeStep, tree, sameHead, same}
 use Rattle.reader.specs.Chains.{linkedStep, linked, items}
 
@@ -23,7 +23,7 @@ below P f n = f n (go n)
 
 -- a reference is to a smaller record
 pub lower-below : (rd : Reader) (i w : ℕ) → 0 < i → lower rd i w < i
-unfolding lower
+unfolding lower ifLt
 lower-below rd i w h = go (ltb (rd i w) i) refl
   where
     go : (b : Bool) → ltb (rd i w) i ≡ b → elim b as (λ x. ℕ) [ true ↦ rd i w | false ↦ 0 ] < i
@@ -31,8 +31,8 @@ lower-below rd i w h = go (ltb (rd i w) i) refl
     go false e = h
 
 pub child-below : (rd : Reader) (i w : ℕ) → 0 < i → child rd i w < i
-unfolding child
-child-below rd i w h = go (ltb (role (rd i 0) w) 10)
+unfolding child ifLt
+child-below rd i w h = go (ltb (roleAt rd i w) 10)
   where
     go : (b : Bool) → elim b as (λ x. ℕ) [ true ↦ 0 | false ↦ lower rd i w ] < i
     go true = h

@@ -1,7 +1,7 @@
+pub mod Tests
 pub mod Words
 pub mod WordLaws
 pub mod Down
-pub mod Tests
 pub mod Kinds
 pub mod At
 pub mod Trees
@@ -16,4 +16,5 @@ pub mod Places
 pub mod Shapes
 pub mod Walk
 pub mod Laws
+pub mod SameLaws
 pub mod Meaning

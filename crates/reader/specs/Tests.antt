@@ -29,6 +29,10 @@ ifEq a b x y = elim (eqb a b) [ true ↦ x | false ↦ y ]
 unfoldable pub ifLt : {A : Type 0} → ℕ → ℕ → A → A → A
 ifLt a b x y = elim (ltb a b) [ true ↦ x | false ↦ y ]
 
+-- a choice by a test
+unfoldable pub ifTrue : {A : Type 0} → Bool → A → A → A
+ifTrue b x y = elim b [ true ↦ x | false ↦ y ]
+
 -- low ≤ a ≤ high
 unfoldable pub between : ℕ → ℕ → ℕ → Bool
 between low high a = ifLt a low false (leb a high)
@@ -80,7 +84,19 @@ module _ {A : Type 0} (a b : ℕ) (x y r : A) where
 
 pub ruleset ifs = (eq-yes, eq-no, lt-yes, lt-no)
 
--- The same where the code holds p for the first number that the definition names.
+-- `if t { .. }` for a test t that a function made
+module _ {A : Type 0} (b t : Bool) (x y r : A) (et : t ≡ b) where
+  pub true-yes : t ≡ true → r ≡ x → r ≡ ifTrue b x y
+  unfolding ifTrue
+  true-yes h e = simp (ifTrue, ← et, h) e
+
+  pub true-no : t ≡ false → r ≡ y → r ≡ ifTrue b x y
+  unfolding ifTrue
+  true-no h e = simp (ifTrue, ← et, h) e
+
+pub ruleset trues = (true-yes, true-no)
+
+-- Choices on numbers where the code holds p for the first number that the definition names.
 module _ {A : Type 0} (a b : ℕ) (x y r : A) (p : ℕ) (ep : p ≡ a) where
   pub eq-yes-of : p ≡ b → r ≡ x → r ≡ ifEq a b x y
   eq-yes-of h e = eq-yes a b x y r (sym ep ∙ h) e

@@ -1,11 +1,12 @@
 -- What a record says, as a tree; one type for types, terms, formulas and chains of them.
-use Prim.Native.Nat.{ℕ, _+_}
-use mathlib.Core.Path.{_≡_, refl}
+use Prim.Native.Nat.{ℕ}
 use mathlib.Core.Bool.{Bool, true, false}
-use lib.Dec.{ltb, eqb}
+use lib.Dec.{eqb}
 use Rattle.reader.specs.Words.{Reader}
 use Rattle.reader.specs.Down.{down}
-use Rattle.reader.specs.Kinds.{role, isNumber, isSymbol}
+use Rattle.reader.specs.Kinds.{isNumber, isSymbol}
+use Rattle.reader.specs.At.{roleAt}
+use Rattle.reader.specs.Tests.{ifLt, ifTrue}
 
 -- a record's kind, its atom, and what its words 1 to 3 refer to
 pub data Tree : Type 0 where
@@ -14,19 +15,15 @@ pub data Tree : Type 0 where
 
 -- "Every reference points to a smaller record number": the record that word w of record i refers to; 0 where the word is no such reference
 unfoldable pub lower : Reader → ℕ → ℕ → ℕ
-lower rd i w = elim (ltb (rd i w) i) [ true ↦ rd i w | false ↦ 0 ]
+lower rd i w = ifLt (rd i w) i (rd i w) 0
 
 -- the same where it is a part of record i's tree, else 0
 unfoldable pub child : Reader → ℕ → ℕ → ℕ
-child rd i w = elim (ltb (role (rd i 0) w) 10) [ true ↦ 0 | false ↦ lower rd i w ]
+child rd i w = ifLt (roleAt rd i w) 10 0 (lower rd i w)
 
 -- What tells a record from others of its kind: "symbols by record number"; the number of a type variable or bound variable, the count of kind 22.
 unfoldable pub atom : Reader → ℕ → ℕ
-atom rd i =
-    elim (isSymbol (rd i 0)) [
-      | true ↦ i
-      | false ↦ elim (isNumber (role (rd i 0) 1)) [ true ↦ rd i 1 | false ↦ 0 ]
-    ]
+atom rd i = ifTrue (isSymbol (rd i 0)) i (ifTrue (isNumber (roleAt rd i 1)) (rd i 1) 0)
 
 -- one step: record i as a tree, where `sub j` is the tree of record j
 unfoldable pub treeStep : Reader → (ℕ → Tree) → ℕ → Tree

@@ -3,7 +3,7 @@ use crate::tests::is_between;
 use crate::words;
 ghost use mathlib.Core.Path.{_≡_};
 ghost use Rattle.reader.specs.Words.{word};
-ghost use Rattle.reader.specs.Kinds.{class, role, ruleRole, isRule, isKind, isSymbol};
+ghost use Rattle.reader.specs.Kinds.{class, role, ruleRole, isRule, isKind, isNumber, isSymbol};
 ghost use Rattle.reader.specs.At.{kindAt, classAt, roleAt};
 
 const RECORDS: [u8; 92] = [
@@ -171,6 +171,16 @@ pub fn is_symbol(k: usize) -> bool
         return true;
     }
     k == 8
+}
+
+// Is r the role of a number?
+pub fn is_number(r: u8) -> bool
+    ensures { λ x. ⌜ x ≡ isNumber r ⌝ }
+{
+    if r < 2 {
+        return false;
+    }
+    r < 6
 }
 
 // The kind of record i.

@@ -1,6 +1,7 @@
 // Reading of obligation, proof and derivation files: bytes, words, records, trees, and the places before the walk.
 pub mod kinds;
 pub mod tests;
+pub mod trees;
 pub mod words;
 
 // "The answer is refusal, file (1 or 2), record, nodes"; `at` is the record.
