@@ -6,7 +6,7 @@ use lib.Dec.{eqb, leb}
 use lib.ListN.{getD, length}
 use Rattle.reader.specs.declared.Answer.{Answer}
 use Rattle.reader.specs.Words.{Reader, word}
-use Rattle.reader.specs.Tests.{both, unless, orElse, every}
+use Rattle.reader.specs.Tests.{both, demand, every}
 use Rattle.reader.specs.Kinds.{isRule}
 use Rattle.reader.specs.Trees.{Tree, tree, same}
 use Rattle.reader.specs.Chains.{itemTrees, parts, premises}
@@ -41,12 +41,10 @@ hasRoom sequent adds = every (λ added. leb (length sequent + length added) 1024
 -- "within one node the lower number wins": the refusal of node n, whose row is r, at a sequent, 0 for none
 unfoldable pub rowFault : Reader → ℕ → List Tree → Row → ℕ
 rowFault rd n sequent r =
-    orElse (unless (haveShapes (r .shapes) (map (tree rd) (parts rd n))) 13)
-    (orElse (unless (premisesFit rd n (length (r .adds))) 13)
-    (orElse (unless (every (λ t. member t sequent) (r .needs)) 14)
-    (orElse (unless (r .fits) 15)
-    (orElse (unless (every (isFresh sequent) (r .fresh)) 16)
-    (unless (hasRoom sequent (r .adds)) 17)))))
+    demand (haveShapes (r .shapes) (map (tree rd) (parts rd n))) 13
+    (demand (premisesFit rd n (length (r .adds))) 13
+    (demand (every (λ t. member t sequent) (r .needs)) 14
+    (demand (r .fits) 15 (demand (every (isFresh sequent) (r .fresh)) 16 (demand (hasRoom sequent (r .adds)) 17 0)))))
 
 unfoldable pub nodeFault : Reader → List Tree → ℕ → ℕ
 nodeFault rd sequent n = rowFault rd n sequent (rowOf rd n)

@@ -17,4 +17,5 @@ pub mod Shapes
 pub mod Walk
 pub mod Laws
 pub mod SameLaws
+pub mod ChainLaws
 pub mod Meaning

@@ -1,12 +1,12 @@
 -- The places of a file before the walk, refusals 1 to 12, for an obligation, a proof and a derivation.
-use Prim.Native.Nat.{ℕ, zero, suc, _+_, _-_, _%_}
+use Prim.Native.Nat.{ℕ, zero, suc, _+_, _%_}
 use mathlib.Core.List.{List, [], _∷_}
 use mathlib.Core.Bool.{Bool, true, false}
 use lib.Dec.{eqb, leb}
-use lib.ListN.{getD, length}
+use lib.ListN.{length}
 use Rattle.reader.specs.declared.Answer.{Answer}
 use Rattle.reader.specs.Words.{Reader, wordOf, word, recordCount}
-use Rattle.reader.specs.Tests.{both, either, unless, every, ifEq}
+use Rattle.reader.specs.Tests.{both, either, demand, every, ifEq, ifTrue}
 use Rattle.reader.specs.Kinds.{class, isRule}
 use Rattle.reader.specs.Trees.{Tree, tree, kindOf, atomOf}
 use Rattle.reader.specs.Chains.{linked, items, itemTrees, premises}
@@ -15,8 +15,8 @@ use Rattle.reader.specs.Records.{recordFault}
 use Rattle.reader.specs.Answers.{accepted, placed, orAnswer, firstFault}
 
 -- "over 1,024 records (obligation), 3,073 (proof), 200,001 (derivation), header counted", by the kind of file
-abbrev pub mostRecords : ℕ → ℕ
-mostRecords mode = getD (1024 ∷ 3073 ∷ 200001 ∷ []) mode 0
+unfoldable pub mostRecords : ℕ → ℕ
+mostRecords mode = ifEq mode 1 3073 (ifEq mode 2 200001 1024)
 
 -- "1 under 16 bytes, no multiple of 16, or over" the limit
 unfoldable pub lengthFits : ℕ → List ℕ → Bool
@@ -82,23 +82,23 @@ namings mode rd r (suc j) = elim (isRule mode (rd (suc j) 0)) [ true ↦ timesIn
 -- "12 not named exactly once, counting premise chains of nodes and the header's root": record i of records 1 to `last`
 unfoldable pub namingFault : ℕ → Reader → ℕ → ℕ → ℕ → ℕ
 namingFault mode rd root last i =
-    elim (isRule mode (rd i 0)) [ true ↦ unless (eqb (ifEq root i 1 0 + namings mode rd i last) 1) 12 | false ↦ 0 ]
+    ifTrue (isRule mode (rd i 0)) (demand (eqb (ifEq root i 1 0 + namings mode rd i last) 1) 12 0) 0
 
 -- "the obligation through all of its places first"
 unfoldable pub obligationReading : List ℕ → Answer
 obligationReading ob =
-    orAnswer (placed (unless (lengthFits 0 ob) 1) 1 0)
-    (orAnswer (placed (unless (headerFits ob) 2) 1 0)
+    orAnswer (placed (demand (lengthFits 0 ob) 1 0) 1 0)
+    (orAnswer (placed (demand (headerFits ob) 2 0) 1 0)
     (orAnswer (firstFault (recordFault 0 (word ob [] (countOf ob))) 1 (countOf ob) 1)
-    (placed (unless (both (goalFits (word ob [] (countOf ob))) (hypothesesFit (word ob [] (countOf ob)))) 11) 1 0)))
+    (placed (demand (both (goalFits (word ob [] (countOf ob))) (hypothesesFit (word ob [] (countOf ob)))) 11 0) 1 0)))
 
 -- the second file, of kind `mode`, beside its obligation
 unfoldable pub secondReading : ℕ → List ℕ → List ℕ → Answer
 secondReading mode ob s =
-    orAnswer (placed (unless (lengthFits mode s) 1) 2 0)
-    (orAnswer (placed (unless (countsFit ob s) 2) 2 0)
+    orAnswer (placed (demand (lengthFits mode s) 1 0) 2 0)
+    (orAnswer (placed (demand (countsFit ob s) 2 0) 2 0)
     (orAnswer (firstFault (recordFault mode (word ob s (countOf ob))) 2 (countOf s) (countOf ob + 1))
-    (orAnswer (placed (unless (isRule mode (word ob s (countOf ob) (rootOf s) 0)) 11) 2 0)
+    (orAnswer (placed (demand (isRule mode (word ob s (countOf ob) (rootOf s) 0)) 11 0) 2 0)
     (firstFault (namingFault mode (word ob s (countOf ob)) (rootOf s) (countOf ob + countOf s)) 2 (countOf s) (countOf ob + 1)))))
 
 -- places 1 to 12 of an obligation and a second file of kind `mode`

@@ -1,12 +1,13 @@
 -- The faults of one record, refusals 3 to 10.
-use Prim.Native.Nat.{ℕ, _+_, _*_, _-_}
+use Prim.Native.Nat.{ℕ, _+_, _*_}
 use mathlib.Core.List.{List, [], _∷_}
 use mathlib.Core.Bool.{Bool, true, false, not}
 use lib.Dec.{eqb, ltb, leb}
 use lib.ListN.{getD, length}
 use Rattle.reader.specs.Words.{Reader}
-use Rattle.reader.specs.Tests.{both, between, unless, orElse, every, ifEq}
-use Rattle.reader.specs.Kinds.{class, role, isKind}
+use Rattle.reader.specs.Tests.{both, between, demand, orElse, every, ifEq, ifLt, ifTrue}
+use Rattle.reader.specs.Kinds.{isKind}
+use Rattle.reader.specs.At.{classAt, roleAt}
 use Rattle.reader.specs.Trees.{tree}
 use Rattle.reader.specs.Chains.{linked, items}
 use Rattle.reader.specs.Weight.{isWeighed, weight}
@@ -17,12 +18,17 @@ use Rattle.reader.specs.Typing.{isTyped}
 unfoldable pub inRange : ℕ → ℕ → Bool
 inRange r a = ifEq r 0 (eqb a 0) (ifEq r 2 (ltb a 4) (ifEq r 3 (ltb a 5) (ifEq r 4 (ltb a 64) (ifEq r 5 (between 1 4 a) true))))
 
-unfoldable pub rangesFit : Reader → ℕ → Bool
-rangesFit rd i = both (inRange (role (rd i 0) 1) (rd i 1)) (both (inRange (role (rd i 0) 2) (rd i 2)) (inRange (role (rd i 0) 3) (rd i 3)))
+unfoldable pub rangeAt : Reader → ℕ → ℕ → Bool
+rangeAt rd i w = inRange (roleAt rd i w) (rd i w)
 
--- By role, from 6 on: whether the reference may be 0; the class of the record that it names, 0 for any; the class of the items of the chain there, 0 for no chain.
+unfoldable pub rangesFit : Reader → ℕ → Bool
+rangesFit rd i = both (rangeAt rd i 1) (both (rangeAt rd i 2) (rangeAt rd i 3))
+
+-- By role: whether the reference may be 0; the class of the record that it names, 0 for any; the class of the items of the chain there, 0 for no chain.
+-- Roles 0 to 5 are no references.
 abbrev pub references : List ℕ
 references =
+    0 ∷ 0 ∷ 0 ∷ 0 ∷ 0 ∷ 0 ∷ 0 ∷ 0 ∷ 0 ∷ 0 ∷ 0 ∷ 0 ∷ 0 ∷ 0 ∷ 0 ∷ 0 ∷ 0 ∷ 0 ∷  -- 0 to 5
     0 ∷ 2 ∷ 0 ∷  -- 6 name
     1 ∷ 2 ∷ 0 ∷  -- 7 next name record
     1 ∷ 1 ∷ 0 ∷  -- 8 chain of parts or premises
@@ -37,33 +43,31 @@ references =
     1 ∷ 1 ∷ 4 ∷ []  -- 17 chain of terms
 
 unfoldable pub mayBeZero : ℕ → Bool
-mayBeZero r = eqb (getD references (3 * (r - 6)) 0) 1
+mayBeZero r = eqb (getD references (3 * r) 0) 1
 
 unfoldable pub wantedClass : ℕ → ℕ
-wantedClass r = getD references (3 * (r - 6) + 1) 0
+wantedClass r = getD references (3 * r + 1) 0
 
 unfoldable pub itemClass : ℕ → ℕ
-itemClass r = getD references (3 * (r - 6) + 2) 0
+itemClass r = getD references (3 * r + 2) 0
 
 -- class c is wanted, 0 for any, and record j has it
 unfoldable pub hasClass : Reader → ℕ → ℕ → Bool
-hasClass rd c j = elim (eqb c 0) [ true ↦ true | false ↦ eqb (class (rd j 0)) c ]
+hasClass rd c j = ifEq c 0 true (eqb (classAt rd j) c)
 
 -- "An item of a link may be any record; its class is checked by the record that uses the chain."
 unfoldable pub itemsHaveClass : Reader → ℕ → ℕ → Bool
-itemsHaveClass rd c j = elim (eqb c 0) [ true ↦ true | false ↦ every (hasClass rd c) (items rd j) ]
+itemsHaveClass rd c j = ifEq c 0 true (every (hasClass rd c) (items rd j))
 
 -- "5 reference zero, not smaller or of wrong class": word a of record i, in role r
 unfoldable pub refers : Reader → ℕ → ℕ → ℕ → Bool
-refers rd i r a =
-    elim (ltb r 6) [
-      | true ↦ true
-      | false ↦ elim (eqb a 0) [ true ↦ mayBeZero r | false ↦ both (ltb a i) (both (hasClass rd (wantedClass r) a) (itemsHaveClass rd (itemClass r) a)) ]
-    ]
+refers rd i r a = ifLt r 6 true (ifEq a 0 (mayBeZero r) (both (ltb a i) (both (hasClass rd (wantedClass r) a) (itemsHaveClass rd (itemClass r) a))))
+
+unfoldable pub refersAt : Reader → ℕ → ℕ → Bool
+refersAt rd i w = refers rd i (roleAt rd i w) (rd i w)
 
 unfoldable pub referencesFit : Reader → ℕ → Bool
-referencesFit rd i =
-    both (refers rd i (role (rd i 0) 1) (rd i 1)) (both (refers rd i (role (rd i 0) 2) (rd i 2)) (refers rd i (role (rd i 0) 3) (rd i 3)))
+referencesFit rd i = both (refersAt rd i 1) (both (refersAt rd i 2) (refersAt rd i 3))
 
 -- "6 chain length": "over 4 name records"
 unfoldable pub nameFits : Reader → ℕ → Bool
@@ -84,11 +88,11 @@ chainsFit rd i =
     (ifEq (rd i 0) 8 (typesFit rd (rd i 1)) (ifEq (rd i 0) 13 (both (typesFit rd (rd i 2)) (argumentsFit rd (rd i 3))) true))
 
 -- "7 weight over 4,096 (derivation 16,384)", by the kind of file
-abbrev pub mostWeight : ℕ → ℕ
-mostWeight mode = getD (4096 ∷ 4096 ∷ 16384 ∷ []) mode 0
+unfoldable pub mostWeight : ℕ → ℕ
+mostWeight mode = ifEq mode 2 16384 4096
 
 unfoldable pub weightFits : ℕ → Reader → ℕ → Bool
-weightFits mode rd i = elim (isWeighed (rd i 0)) [ true ↦ leb (weight (tree rd i)) (mostWeight mode) | false ↦ true ]
+weightFits mode rd i = ifTrue (isWeighed (rd i 0)) (leb (weight (tree rd i)) (mostWeight mode)) true
 
 -- "8 name, at its symbol"
 unfoldable pub nameStands : Reader → ℕ → Bool
@@ -100,16 +104,22 @@ nameIsFree rd i = elim (eqb (nameOf rd i) 0) [ true ↦ true | false ↦ not (na
 
 -- "10 typing, not in derivations"
 unfoldable pub typingFits : ℕ → Reader → ℕ → Bool
-typingFits mode rd i = elim (eqb mode 2) [ true ↦ true | false ↦ isTyped rd i ]
+typingFits mode rd i = ifEq mode 2 true (isTyped rd i)
 
--- "within one record the lower number wins": the refusal of record i of a file of kind `mode`, 0 for none
+-- "3 kind"
+unfoldable pub kindFits : ℕ → Reader → ℕ → Bool
+kindFits mode rd i = isKind mode (rd i 0)
+
+-- refusals 3 to 6 of record i of a file of kind `mode`: its words, 0 for none
+unfoldable pub wordsFault : ℕ → Reader → ℕ → ℕ
+wordsFault mode rd i =
+    demand (kindFits mode rd i) 3 (demand (rangesFit rd i) 4 (demand (referencesFit rd i) 5 (demand (chainsFit rd i) 6 0)))
+
+-- refusals 7 to 10: what it says
+unfoldable pub contentFault : ℕ → Reader → ℕ → ℕ
+contentFault mode rd i =
+    demand (weightFits mode rd i) 7 (demand (nameStands rd i) 8 (demand (nameIsFree rd i) 9 (demand (typingFits mode rd i) 10 0)))
+
+-- "within one record the lower number wins": the refusal of record i, 0 for none
 unfoldable pub recordFault : ℕ → Reader → ℕ → ℕ
-recordFault mode rd i =
-    orElse (unless (isKind mode (rd i 0)) 3)
-    (orElse (unless (rangesFit rd i) 4)
-    (orElse (unless (referencesFit rd i) 5)
-    (orElse (unless (chainsFit rd i) 6)
-    (orElse (unless (weightFits mode rd i) 7)
-    (orElse (unless (nameStands rd i) 8)
-    (orElse (unless (nameIsFree rd i) 9)
-    (unless (typingFits mode rd i) 10)))))))
+recordFault mode rd i = orElse (wordsFault mode rd i) (contentFault mode rd i)

@@ -1,18 +1,18 @@
 -- Weight of types, terms and formulas.
 use Prim.Native.Nat.{ℕ, _+_}
 use mathlib.Core.Bool.{Bool, true, false}
-use lib.Dec.{eqb, ltb}
-use Rattle.reader.specs.Tests.{either}
+use lib.Dec.{eqb}
+use Rattle.reader.specs.Tests.{ifEq, ifTrue}
 use Rattle.reader.specs.Kinds.{class}
 use Rattle.reader.specs.Trees.{Tree, leaf, node}
 
 -- a kind of class type, term, formula, or for all types: "kind 22 weighs as a formula"
 unfoldable pub isWeighed : ℕ → Bool
-isWeighed k = either (eqb (class k) 3) (either (eqb (class k) 4) (either (eqb (class k) 5) (eqb (class k) 7)))
+isWeighed k = ifEq (class k) 3 true (ifEq (class k) 4 true (ifEq (class k) 5 true (eqb (class k) 7)))
 
 -- what a record of kind k weighs itself: "chains read through, functions not counted"
 unfoldable pub ownWeight : ℕ → ℕ
-ownWeight k = elim (isWeighed k) [ true ↦ 1 | false ↦ 0 ]
+ownWeight k = ifTrue (isWeighed k) 1 0
 
 -- "constant, given type, variable of type, ⊥, ⊤: 1; every other type, term or formula: 1 plus the weights of the types, terms and formulas
 -- that it names, each as often as named": of those with weight 1 only a constant's tree has parts

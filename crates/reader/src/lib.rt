@@ -1,4 +1,5 @@
 // Reading of obligation, proof and derivation files: bytes, words, records, trees, and the places before the walk.
+pub mod chains;
 pub mod kinds;
 pub mod tests;
 pub mod trees;
