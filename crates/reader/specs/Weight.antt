@@ -8,7 +8,7 @@ use Rattle.reader.specs.Trees.{Tree, leaf, node}
 
 -- a kind of class type, term, formula, or for all types: "kind 22 weighs as a formula"
 unfoldable pub isWeighed : ℕ → Bool
-isWeighed k = ifEq (class k) 3 true (ifEq (class k) 4 true (ifEq (class k) 5 true (eqb (class k) 7)))
+isWeighed k = ifEq (class k) 3 true (ifEq (class k) 4 true (ifEq (class k) 5 true (ifEq (class k) 7 true false)))
 
 -- what a record of kind k weighs itself: "chains read through, functions not counted"
 unfoldable pub ownWeight : ℕ → ℕ

@@ -1,0 +1,4 @@
+// The faults of one record, refusals 3 to 10.
+pub mod ranges;
+pub mod references;
+pub mod weights;
