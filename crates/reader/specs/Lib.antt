@@ -16,6 +16,7 @@ pub mod Places
 pub mod Shapes
 pub mod Walk
 pub mod Laws
+pub mod AnswerLaws
 pub mod SameLaws
 pub mod ChainLaws
 pub mod Meaning

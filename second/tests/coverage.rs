@@ -1,0 +1,93 @@
+//! Many generated cases: what they cover, and that labels keep their promises.
+
+use second::coverage::Coverage;
+use second::generate::limits::limits;
+use second::generate::{derivation_case, proof_case};
+use second::reader::Second;
+
+const SEEDS: u64 = 20_000;
+const WANTED: u64 = 20;
+
+fn covers(kind: Second) {
+    let coverage = Coverage::of_seeds(kind, 0, SEEDS);
+    println!("{coverage}");
+    assert!(coverage.broken.is_empty(), "{}", coverage.broken.join("\n"));
+    let lacking = coverage.lacking(WANTED);
+    assert!(lacking.is_empty(), "{}", lacking.join("\n"));
+    // A good part accepted, a good part refused.
+    assert!(coverage.accepted * 5 > SEEDS && coverage.accepted * 5 < 4 * SEEDS);
+    // A proof has no limit of depth: 18 cannot occur there.
+    assert!(kind == Second::Derivation || coverage.cases_of(18) == 0);
+}
+
+#[test]
+fn proofs() {
+    covers(Second::Proof);
+}
+
+#[test]
+fn derivations() {
+    covers(Second::Derivation);
+}
+
+#[test]
+fn limit_cases() {
+    for kind in [Second::Proof, Second::Derivation] {
+        let mut coverage = Coverage::new(kind);
+        let list = limits();
+        for limit in list.iter().filter(|limit| limit.kind == kind) {
+            assert_eq!(
+                coverage.add(&limit.case),
+                limit.answer,
+                "{}",
+                limit.case.label
+            );
+        }
+        println!("limits of {coverage}");
+        assert!(coverage.cases > 500);
+    }
+}
+
+#[test]
+fn the_same_seed_makes_the_same_case() {
+    for seed in (0..2_000).chain([u64::MAX, u64::MAX / 2, 1 << 63]) {
+        let (first, again) = (proof_case(seed), proof_case(seed));
+        assert!(first.second == again.second && first.obligation == again.obligation);
+        let (first, again) = (derivation_case(seed), derivation_case(seed));
+        assert!(first.second == again.second && first.obligation == again.obligation);
+        assert_eq!(first.label, again.label);
+    }
+}
+
+/// Bytes without any sense, and cases cut and joined: no panic, and the reader agrees with the check.
+#[test]
+fn any_bytes() {
+    let mut rng = second::generate::rng::Rng::new(7);
+    for round in 0..4_000u64 {
+        let case = match round % 2 {
+            0 => proof_case(round),
+            _ => derivation_case(round),
+        };
+        let (mut first, mut second) = (case.obligation, case.second);
+        if rng.chance(30) {
+            first = (0..rng.below(200)).map(|_| rng.word() as u8).collect();
+        }
+        for _ in 0..rng.below(6) {
+            if !second.is_empty() {
+                let at = rng.below(second.len());
+                second[at] = rng.word() as u8;
+            }
+        }
+        if rng.chance(20) {
+            second.truncate(rng.below(second.len() + 1));
+        }
+        let proof = second::check_proof(&first, &second);
+        let read = second::read_proof(&first, &second);
+        assert_eq!(read.refusal != 0, (1..=12).contains(&proof.refusal));
+        let derivation = second::check_derivation(&first, &second);
+        let read = second::read_derivation(&first, &second);
+        assert_eq!(read.refusal != 0, (1..=12).contains(&derivation.refusal));
+        second::check_proof(&second, &first);
+        second::check_derivation(&second, &first);
+    }
+}
