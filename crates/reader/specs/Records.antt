@@ -81,11 +81,13 @@ typesFit rd c = between 1 5 (length (linked rd c))
 unfoldable pub argumentsFit : Reader → ℕ → Bool
 argumentsFit rd c = leb (length (linked rd c)) 4
 
+-- the chains of types and arguments of a function or an application
+unfoldable pub chainsOf : Reader → ℕ → Bool
+chainsOf rd i = ifEq (rd i 0) 8 (typesFit rd (rd i 1)) (ifEq (rd i 0) 13 (both (typesFit rd (rd i 2)) (argumentsFit rd (rd i 3))) true)
+
 -- "at the symbol or application"
 unfoldable pub chainsFit : Reader → ℕ → Bool
-chainsFit rd i =
-    both (nameFits rd i)
-    (ifEq (rd i 0) 8 (typesFit rd (rd i 1)) (ifEq (rd i 0) 13 (both (typesFit rd (rd i 2)) (argumentsFit rd (rd i 3))) true))
+chainsFit rd i = both (nameFits rd i) (chainsOf rd i)
 
 -- "7 weight over 4,096 (derivation 16,384)", by the kind of file
 unfoldable pub mostWeight : ℕ → ℕ

@@ -15,7 +15,7 @@ use Rattle.reader.specs.Chains.{linked, items}
 use Rattle.reader.specs.Laws.{items-zero, items-step}
 use Rattle.reader.specs.ChainLaws.{linked-length, linked-none}
 use Rattle.reader.specs.WordLaws.{past-end}
-use Rattle.reader.specs.Records.{references, mayBeZero, wantedClass, itemClass, hasClass, itemsHaveClass, refers, refersAt, typesFit, argumentsFit}
+use Rattle.reader.specs.Records.{references, mayBeZero, wantedClass, itemClass, hasClass, itemsHaveClass, refers, refersAt, typesFit, argumentsFit, chainsOf}
 
 -- past the table
 pub zero-past : (r : ℕ) → 18 ≤ r → false ≡ mayBeZero r
@@ -95,10 +95,7 @@ pub types-some : (rd : Reader) (c : ℕ) → (c ≡ 0 → ⊥) → (t : Bool) �
 unfolding typesFit between
 types-some rd c h t e = lt-no (length (linked rd c)) 1 false _ t (omega (arith, linked-length rd c h)) e
 
--- "a function's types not 1 to 5, an application's types not 1 to 5 or its arguments over 4"
-unfoldable pub chainsOf : Reader → ℕ → Bool
-chainsOf rd i = ifEq (rd i 0) 8 (typesFit rd (rd i 1)) (ifEq (rd i 0) 13 (both (typesFit rd (rd i 2)) (argumentsFit rd (rd i 3))) true)
-
+-- The ways out of `chains_of`.
 module _ (rd : Reader) (i k : ℕ) (ek : k ≡ rd i 0) where
   pub chains-function : k ≡ 8 → (c : ℕ) → c ≡ rd i 1 → (t : Bool) → t ≡ typesFit rd c → t ≡ chainsOf rd i
   unfolding chainsOf ifEq

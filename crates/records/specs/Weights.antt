@@ -1,5 +1,5 @@
 -- The table of weights, and the ways out of the code that fills it.
-use Prim.Native.Nat.{ℕ, zero, suc, _+_, _<_, _≤_, min}
+use Prim.Native.Nat.{ℕ, zero, suc, _+_, _-_, _<_, _≤_, min}
 use mathlib.Core.Path.{_≡_, refl, sym, ap, _∙_}
 use mathlib.Core.List.{List}
 use mathlib.Core.Bool.{Bool, true, false, not}
@@ -16,6 +16,8 @@ use Rattle.reader.specs.Kinds.{class}
 use Rattle.reader.specs.Trees.{Tree, leaf, node, child, atom, tree}
 use Rattle.reader.specs.Weight.{isWeighed, ownWeight, weight}
 use Rattle.reader.specs.Records.{mostWeight, weightFits}
+use Rattle.reader.specs.Answers.{answer, firstFault}
+use Rattle.reader.specs.AnswerLaws.{scan-stop}
 use Rattle.reader.specs.Laws.{child-below, tree-zero, tree-step}
 
 -- a weight as the table holds it
@@ -101,3 +103,21 @@ filled-more rd table i w p fill e = record { holds = λ j h. ⊎-elim (λ q. her
 
     below : (j : ℕ) → j < i → getD (set table i w) j 0 ≡ capped (weight (tree rd j))
     below j q = getD-set-other table i j w 0 (omega arith) ∙ fill .holds j q
+
+pub filled-end : (rd : Reader) (table : List ℕ) (i last : ℕ) → i ≤ last + 1 → last < i → Filled rd table i → Filled rd table (last + 1)
+filled-end rd table i last h g fill = let e : last + 1 ≡ i = omega arith in rw e fill
+
+-- an entry fits the table's numbers
+pub capped-small : (w n : ℕ) → w ≡ capped n → w < 65536
+unfolding capped
+capped-small w n e = omega arith
+
+-- the number of a file in an answer
+unfoldable pub fileOf : ℕ → ℕ
+fileOf mode = ifEq mode 0 1 2
+
+-- the refusal found, in the file whose number the code holds
+pub fault-stop : (mode file : ℕ) (fault : ℕ → ℕ) (first last i w : ℕ) → file ≡ fileOf mode →
+    firstFault fault (fileOf mode) (last + 1 - first) first ≡ firstFault fault (fileOf mode) (last + 1 - i) i → i ≤ last → w ≡ fault i → (w ≡ 0 → ⊥) →
+    answer w file i 0 ≡ firstFault fault (fileOf mode) (last + 1 - first) first
+fault-stop mode file fault first last i w e inv h ew n = rw e (scan-stop fault (fileOf mode) first last i inv h w ew n)

@@ -7,8 +7,8 @@ ghost use mathlib.Core.Path.{_≡_};
 ghost use Rattle.reader.specs.Words.{word};
 ghost use Rattle.reader.specs.Tests.{every};
 ghost use Rattle.reader.specs.Chains.{items};
-ghost use Rattle.reader.specs.Records.{mayBeZero, wantedClass, itemClass, hasClass, itemsHaveClass, refers, refersAt, referencesFit, typesFit, argumentsFit};
-ghost use Rattle.records.specs.References.{chainsOf, pointsWell};
+ghost use Rattle.reader.specs.Records.{mayBeZero, wantedClass, itemClass, hasClass, itemsHaveClass, refers, refersAt, referencesFit, typesFit, argumentsFit, chainsOf};
+ghost use Rattle.records.specs.References.{pointsWell};
 
 const REFERENCES: [u8; 54] = [
     0,
