@@ -1,7 +1,7 @@
 -- Reading a name from a cursor: a record of the name's chain, and an offset below 8 in its bytes.
 use Prim.Native.Nat.{ℕ, _/_, _%_}
 use mathlib.Core.List.{List, [], _∷_, _++_}
-use mathlib.Core.Bool.{Bool, true, false, not}
+use mathlib.Core.Bool.{Bool, false, not}
 use lib.Dec.{eqb}
 use lib.ListN.{drop, getD}
 use Rattle.reader.specs.Words.{Reader}
@@ -26,7 +26,7 @@ bytesFrom rd r t = drop t (recordBytes rd r)
 unfoldable pub isZero : ℕ → Bool
 isZero b = eqb b 0
 
--- they are zero bytes only
+-- the bytes of record r from offset t on are all zero
 unfoldable pub zerosFrom : Reader → ℕ → ℕ → Bool
 zerosFrom rd r t = every isZero (bytesFrom rd r t)
 
@@ -34,7 +34,7 @@ zerosFrom rd r t = every isZero (bytesFrom rd r t)
 unfoldable pub ended : Reader → ℕ → ℕ → Bool
 ended rd r t = both (eqb (lower rd r 3) 0) (zerosFrom rd r t)
 
--- the bytes of the name that are left, where record r is its last, and where `after` follows
+-- the bytes of the name that are left: `bytes` of one record, and those of the records from `after` on, 0 where that record is the last
 unfoldable pub leftBytes : Reader → ℕ → List ℕ → List ℕ
 leftBytes rd after bytes = ifEq after 0 (trimmed bytes) (bytes ++ nameBytes rd (linked rd after))
 

@@ -1,22 +1,22 @@
 -- Laws of the cursor.
 use Prim.Native.Nat.{ℕ, zero, suc, _+_, _-_, _<_, _≤_}
-use mathlib.Core.Path.{_≡_, refl, sym, ap, _∙_}
-use mathlib.Core.List.{List, [], _∷_, _++_}
-use mathlib.Core.Bool.{Bool, true, false, not, false≢true}
-use lib.Dec.{eqb, leb, eqb·suc-zero}
-use lib.ListN.{length, drop, getD, drop-of-length-le, List·getD-eq-default}
+use mathlib.Core.Path.{_≡_, refl, sym, _∙_}
+use mathlib.Core.List.{List, [], _∷_}
+use mathlib.Core.Bool.{Bool, true, false, false≢true}
+use lib.Dec.{eqb, eqb·suc-zero}
+use lib.ListN.{getD, drop-of-length-le, List·getD-eq-default}
 use lib.Seq.{drop-cons}
 use native.Mathlib.Numerals.{add-one}
 use native.Mathlib.Omega.{arith}
-use borrow.Author.Tests.{eq-eqb, ne-eqb, lt-ltb, le-ltb, eqb-true, eqb-false, not-true, not-false}
+use borrow.Author.Tests.{eq-eqb, ne-eqb, lt-ltb, le-ltb}
 use Rattle.reader.specs.Words.{Reader}
 use Rattle.reader.specs.Tests.{both, every, ifEq, ifLt, ifTrue}
 use Rattle.reader.specs.Trees.{lower}
 use Rattle.reader.specs.Chains.{linked}
-use Rattle.reader.specs.Laws.{lower-below, linked-zero, linked-step}
-use Rattle.reader.specs.Names.{bytesOf, recordBytes, trimmed, nameBytes, characters}
+use Rattle.reader.specs.Laws.{linked-zero, linked-step}
+use Rattle.reader.specs.Names.{bytesOf, recordBytes, trimmed, nameBytes}
 use Rattle.names.specs.declared.Step.{Step}
-use Rattle.names.specs.Cursor.{digit, byteAt, bytesFrom, isZero, zerosFrom, ended, leftBytes, restBytes, step, nothing, read, spelled}
+use Rattle.names.specs.Cursor.{digit, byteAt, bytesFrom, isZero, zerosFrom, ended, leftBytes, restBytes, step, nothing, read}
 
 -- bytes without the zero bytes at their end
 cut : ℕ → List ℕ → List ℕ

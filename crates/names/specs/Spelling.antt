@@ -1,6 +1,6 @@
 -- Laws of the characters of a name: the ways out of the code that reads them.
-use Prim.Native.Nat.{ℕ, zero, suc, _+_, _<_, _≤_}
-use mathlib.Core.Path.{_≡_, refl, sym, ap, _∙_}
+use Prim.Native.Nat.{ℕ, _+_, _<_, _≤_}
+use mathlib.Core.Path.{_≡_, refl, sym, _∙_}
 use mathlib.Core.List.{List, [], _∷_}
 use mathlib.Core.Bool.{Bool, true, false, not, false≢true}
 use lib.Dec.{eqb, ltb, leb}
@@ -11,7 +11,7 @@ use Rattle.reader.specs.Words.{Reader}
 use Rattle.reader.specs.Tests.{both, either, between, every, ifLt, ifTrue}
 use Rattle.reader.specs.Names.{isLetter, isDigitOrUnderscore, single, accented, characters, startsWell, sameName}
 use Rattle.names.specs.declared.Step.{Step}
-use Rattle.names.specs.Cursor.{restBytes, step, nothing, read, spelled, isSpelled}
+use Rattle.names.specs.Cursor.{restBytes, step, read, spelled, isSpelled}
 use Rattle.names.specs.Laws.{rest-none}
 
 -- `if r { return true; }`

@@ -1,7 +1,7 @@
 -- Names of symbols: the definitions that loops over records follow, and the ways out of the code.
-use Prim.Native.Nat.{ℕ, zero, suc, _+_, _-_, _<_, _≤_}
+use Prim.Native.Nat.{ℕ, zero, suc, _-_, _<_}
 use mathlib.Core.Path.{_≡_, refl, sym, ap, _∙_}
-use mathlib.Core.List.{List, [], _∷_}
+use mathlib.Core.List.{List, _∷_}
 use mathlib.Core.Bool.{Bool, true, false, not}
 use lib.Dec.{eqb, leb, leb·zero, leb·suc-zero, leb·suc-suc}
 use lib.ListN.{length}
@@ -12,7 +12,7 @@ use Rattle.reader.specs.Tests.{both, every}
 use Rattle.reader.specs.Trees.{lower}
 use Rattle.reader.specs.Chains.{linked}
 use Rattle.reader.specs.Laws.{lower-below, linked-zero, linked-step}
-use Rattle.reader.specs.Names.{nameOf, nameSpace, nameBytes, characters, name, hasBytes, startsWell, isName, sameName, takenBelow, nameTaken}
+use Rattle.reader.specs.Names.{nameOf, nameSpace, characters, name, hasBytes, startsWell, isName, sameName, takenBelow, nameTaken}
 use Rattle.reader.specs.Records.{nameFits, nameStands, nameIsFree}
 use Rattle.names.specs.Cursor.{restBytes, isSpelled}
 use Rattle.names.specs.Laws.{rest-start}

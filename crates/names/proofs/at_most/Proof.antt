@@ -1,5 +1,4 @@
 use borrow.Author.Needs.{needs}
-use native.Mathlib.Omega.{arith}
 use mathlib.Core.Path.{_≡_, refl}
 use Rattle.reader.specs.Words.{word}
 use Rattle.names.specs.Symbols.{atMost, chain-falls, most-stop, most-go, most-end}

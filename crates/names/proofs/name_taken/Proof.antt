@@ -33,12 +33,12 @@ name-taken-spec = tie.close (tie.spec
     -- takes-name-requires: loop-test; 1 loop; 2 name-of; 3 space-of; 4 word-at; 5 if1; 8 args
     (λ c κs. search needs)
     -- returns-2: if2; 1 takes-name; 2 loop-test; 3 loop; 4 name-of; 5 space-of; 6 word-at; 7 if1; 10 args
-    (λ c. search (taken-stop, arith))
+    (λ c. let l : c .before .before .before .loop .n ≡ 0 → ⊥ = omega arith in search taken-stop)
     -- sub-n-2: if2; 1 takes-name; 2 loop-test; 3 loop; 4 name-of; 5 space-of; 6 word-at; 7 if1; 10 args
     (λ c. search needs)
     -- loop-less: if2; 1 takes-name; 2 loop-test; 3 loop; 4 name-of; 5 space-of; 6 word-at; 7 if1; 10 args
     (λ c. omega arith)
     -- loop-again: if2; 1 takes-name; 2 loop-test; 3 loop; 4 name-of; 5 space-of; 6 word-at; 7 if1; 10 args
-    (λ c. search (taken-go, arith))
+    (λ c. let l : c .before .before .before .loop .n ≡ 0 → ⊥ = omega arith in search taken-go)
     -- returns-3: loop-test; 1 loop; 2 name-of; 3 space-of; 4 word-at; 5 if1; 8 args
-    (λ c. search (taken-end, arith)))
+    (λ c. let l : c .before .loop .n ≡ 0 = omega arith in search taken-end))

@@ -1,4 +1,3 @@
-use borrow.Author.Needs.{needs}
 use Rattle.reader.specs.Tests.{ifs}
 use Rattle.reader.specs.Names.{nameSpace}
 use Rattle.names.proofs.space_of.Statement.{statement}

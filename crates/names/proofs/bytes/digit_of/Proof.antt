@@ -1,4 +1,3 @@
-use borrow.Author.Needs.{needs}
 use Rattle.reader.specs.Tests.{ifs}
 use Rattle.names.specs.Cursor.{digit}
 use Rattle.names.proofs.bytes.digit_of.Statement.{statement}

@@ -1,7 +1,7 @@
 use borrow.Author.Needs.{needs}
 use native.Mathlib.Omega.{arith}
 use mathlib.Core.Path.{_≡_, refl}
-use Prim.Native.Nat.{_-_}
+use Prim.Native.Nat.{_-_, _<_, _≤_}
 use Rattle.reader.specs.Words.{word}
 use Rattle.names.specs.Cursor.{zerosFrom}
 use Rattle.names.specs.Laws.{zeros-stop, zeros-go, zeros-end}
@@ -22,12 +22,12 @@ only-zeros-spec = tie.close (tie.spec
     -- byte-of-requires: loop-test; 1 loop; 4 args
     (λ c κs. search needs)
     -- returns: if1; 1 byte-of; 2 loop-test; 3 loop; 6 args
-    (λ c. search (zeros-stop, arith))
+    (λ c. let l : c .before .before .before .loop .u < 8 = omega arith in search zeros-stop)
     -- add-u: if1; 1 byte-of; 2 loop-test; 3 loop; 6 args
     (λ c. search needs)
     -- loop-less: if1; 1 byte-of; 2 loop-test; 3 loop; 6 args
     (λ c. omega arith)
     -- loop-again: if1; 1 byte-of; 2 loop-test; 3 loop; 6 args
-    (λ c. search (zeros-go, arith))
+    (λ c. let l : c .before .before .before .loop .u < 8 = omega arith in search zeros-go)
     -- returns-2: loop-test; 1 loop; 4 args
-    (λ c. search (zeros-end, arith)))
+    (λ c. let l : 8 ≤ c .before .loop .u = omega arith in search zeros-end))

@@ -1,0 +1,3 @@
+// Places 1 to 12 of an obligation and a proof or derivation, and the C entries for them.
+pub mod headers;
+pub mod roots;
