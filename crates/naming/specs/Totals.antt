@@ -144,7 +144,7 @@ count-is mode rd root last start named h t p i q = go (isRule mode (rd i 0))
 
 -- the answer of `first_unnamed`
 pub unnamed-is : (mode : ℕ) (rd : Reader) (root m last x : ℕ) (start named : List ℕ) (r : Answer) → x ≡ root → Rooted x start → Total mode rd last start named →
-    last < length start → m < last → r ≡ firstFault (countFault mode rd named) 2 (last + 1 - (m + 1)) (m + 1) →
+    last < length start → m ≤ last → r ≡ firstFault (countFault mode rd named) 2 (last + 1 - (m + 1)) (m + 1) →
     r ≡ firstFault (namingFault mode rd root last) 2 (last - m) (m + 1)
 unnamed-is mode rd root m last x start named r ex g t p q e =
     let h : Rooted root start = rw ex at g in

@@ -5,7 +5,7 @@ use reader::kinds;
 use reader::trees;
 use reader::words;
 ghost use mathlib.Core.Path.{_≡_};
-ghost use Prim.Native.Nat.{_+_, _-_, _<_, min};
+ghost use Prim.Native.Nat.{_+_, _-_, _<_, _≤_, min};
 ghost use lib.ListN.{length, getD};
 ghost use Rattle.reader.specs.Words.{word};
 ghost use Rattle.reader.specs.Trees.{lower};
@@ -192,7 +192,7 @@ pub fn first_unnamed(
     passed: &mut [u8],
     last: usize,
 ) -> Answer
-    requires { ⌜ (m < last) × (last < length (now named)) × (last < length (now passed)) × Cleared (now named) × Cleared (now passed) ⌝ }
+    requires { ⌜ (m ≤ last) × (last < length (now named)) × (last < length (now passed)) × Cleared (now named) × Cleared (now passed) ⌝ }
     ensures { λ r. ⌜ r ≡ firstFault (namingFault mode (word (now (obligation .entry)) (now (second .entry)) m) (rootOf (now (second .entry))) last) 2 (last - m) (m + 1) ⌝ }
 {
     count_root(named, words::word_of(second, 0, 2));

@@ -1,3 +1,4 @@
 pub mod Headers
 pub mod Roots
 pub mod Places
+pub mod Pack

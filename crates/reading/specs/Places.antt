@@ -3,10 +3,10 @@ use Prim.Native.Nat.{ℕ, zero, suc, _+_, _-_, _<_, _≤_}
 use mathlib.Core.Path.{_≡_, refl, sym, ap, _∙_}
 use mathlib.Core.List.{List, [], _∷_}
 use mathlib.Core.Bool.{Bool, true, false, not}
-use lib.Dec.{eqb}
-use lib.ListN.{length, getD}
+use lib.Dec.{eqb, ltb}
+use lib.ListN.{length, getD, replicate, length-replicate, getD-replicate, List·getD-eq-default}
 use native.Mathlib.Omega.{arith}
-use borrow.Author.Tests.{not-true, not-false}
+use borrow.Author.Tests.{not-true, not-false, ne-eqb, ltb-true, ltb-false}
 use Rattle.reader.specs.declared.Answer.{Answer}
 use Rattle.reader.specs.Words.{Reader, wordOf, word}
 use Rattle.reader.specs.Tests.{both, demand, ifEq}
@@ -92,3 +92,107 @@ module _ (ob : List ℕ) (t : Bool) (et : t ≡ lengthFits 0 ob) where
       pub obligation-rest : (q : Answer) → q ≡ recordsAndRoots (word ob [] m) m → q ≡ obligationReading ob
       unfolding obligationReading recordsAndRoots rootsFit
       obligation-rest q e = place-go (lengthFits 0 ob) t 1 1 q _ et long (place-go (headerFits ob) u 2 1 q _ eu fits (rw em at e))
+
+-- The ways out of `root_and_naming`.
+module _ (mode : ℕ) (rd : Reader) (root m last : ℕ) (x k : ℕ) (ex : x ≡ root) (ek : k ≡ rd x 0) (t : Bool) (et : t ≡ isRule mode k) (q : Answer) where
+  root-test : t ≡ isRule mode (rd root 0)
+  root-test = et ∙ ap (isRule mode) (ek ∙ ap (λ (n : ℕ). rd n 0) ex)
+
+  pub root-stop : not t ≡ true → q ≡ answer 11 2 0 0 → q ≡ rootAndNaming mode rd root m last
+  unfolding rootAndNaming
+  root-stop h e = e ∙ place-stop (isRule mode (rd root 0)) t 11 2 root-test refl _ h
+
+  pub root-go : not t ≡ false → q ≡ firstFault (namingFault mode rd root last) 2 (last - m) (m + 1) → q ≡ rootAndNaming mode rd root m last
+  unfolding rootAndNaming
+  root-go h e = place-go (isRule mode (rd root 0)) t 11 2 q _ root-test h e
+
+-- the records, the root and the naming of a second file of n records after its header
+unfoldable pub secondBody : ℕ → Reader → ℕ → ℕ → ℕ → Answer
+secondBody mode rd m n root = orAnswer (firstFault (recordFault mode rd) 2 n (m + 1)) (rootAndNaming mode rd root m (m + n))
+
+-- The ways out of `second_body`.
+module _ (mode : ℕ) (rd : Reader) (m n root w last : ℕ) (second : 0 < mode) (ew : w ≡ n) (el : last ≡ m + w) (r : Answer)
+    (er : r ≡ firstFault (recordFault mode rd) (fileOf mode) (last + 1 - (m + 1)) (m + 1)) where
+  second-records : r ≡ firstFault (recordFault mode rd) 2 n (m + 1)
+  unfolding fileOf ifEq
+  second-records =
+      let e : last + 1 - (m + 1) ≡ n = omega arith in
+      let f : fileOf mode ≡ 2 = simp (fileOf, ifEq, ne-eqb mode 0 (omega arith)) in
+      er ∙ ap (λ (k : ℕ). firstFault (recordFault mode rd) k (last + 1 - (m + 1)) (m + 1)) f
+      ∙ ap (λ (k : ℕ). firstFault (recordFault mode rd) 2 k (m + 1)) e
+
+  pub second-stop : (r .refusal ≡ 0 → ⊥) → r ≡ secondBody mode rd m n root
+  unfolding secondBody
+  second-stop h = answer-stop (firstFault (recordFault mode rd) 2 n (m + 1)) _ r second-records h
+
+  pub second-go : r .refusal ≡ 0 → (q : Answer) → q ≡ rootAndNaming mode rd root m last → q ≡ secondBody mode rd m n root
+  unfolding secondBody
+  second-go h q e =
+      let same : last ≡ m + n = omega arith in
+      answer-go (firstFault (recordFault mode rd) 2 n (m + 1)) _ r q second-records h (rw same at e)
+
+-- tables that have room for every record of an obligation and a second file of kind `mode`
+pub record Roomy (mode : ℕ) (table named passed : List ℕ) : Type 0 where
+  pub weights : 1023 + mostRecords mode ≤ length table
+  pub names : 1023 + mostRecords mode ≤ length named
+  pub links : 1023 + mostRecords mode ≤ length passed
+
+-- The ways out of `second_reading`.
+module _ (mode : ℕ) (ob s : List ℕ) (t : Bool) (et : t ≡ lengthFits mode s) where
+  pub reading-length : not t ≡ true → (q : Answer) → q ≡ answer 1 2 0 0 → q ≡ secondReading mode ob s
+  unfolding secondReading
+  reading-length h q e = e ∙ place-stop (lengthFits mode s) t 1 2 et refl _ h
+
+  module _ (long : not t ≡ false) (u : Bool) (eu : u ≡ countsFit ob s) where
+    pub reading-header : not u ≡ true → (q : Answer) → q ≡ answer 2 2 0 0 → q ≡ secondReading mode ob s
+    unfolding secondReading
+    reading-header h q e = place-go (lengthFits mode s) t 1 2 q _ et long (e ∙ place-stop (countsFit ob s) u 2 2 eu refl _ h)
+
+    module _ (fits : not u ≡ false) (m : ℕ) where
+      pub reading-small : m < 1024 → m + countOf s < 1023 + mostRecords mode
+      reading-small h = omega (arith, count-below mode s (sym et ∙ not-false t long) (counts-in ob s (sym eu ∙ not-false u fits)))
+
+      pub reading-rest : m ≡ countOf ob → (q : Answer) → q ≡ secondBody mode (word ob s m) m (countOf s) (rootOf s) → q ≡ secondReading mode ob s
+      unfolding secondReading secondBody rootAndNaming
+      reading-rest em q e =
+          let n : countOf ob + countOf s - countOf ob ≡ countOf s = omega arith in
+          place-go (lengthFits mode s) t 1 2 q _ et long (place-go (countsFit ob s) u 2 2 q _ eu fits (rw n at (rw em at e)))
+
+-- an obligation that passes has at most 1,023 records
+pub passed-small : (ob : List ℕ) (r : Answer) (m : ℕ) → r ≡ obligationReading ob → r .refusal ≡ 0 → m ≡ wordOf ob 0 1 → m < 1024
+unfolding obligationReading orAnswer placed demand mostRecords ifEq
+passed-small ob r m er h em = go (lengthFits 0 ob) refl (headerFits ob) refl
+  where
+    go : (a : Bool) → lengthFits 0 ob ≡ a → (b : Bool) → headerFits ob ≡ b → m < 1024
+    go true p true q = omega (arith, count-below 0 ob p q)
+    go true p false q =
+        let e : r ≡ answer 2 1 0 0 = er ∙ simp (obligationReading, orAnswer, placed, demand, p, q) in
+        absurd (omega (arith, sym (ap (λ (x : Answer). x .refusal) e) ∙ h))
+    go false p b q =
+        let e : r ≡ answer 1 1 0 0 = er ∙ simp (obligationReading, orAnswer, placed, demand, p) in
+        absurd (omega (arith, sym (ap (λ (x : Answer). x .refusal) e) ∙ h))
+
+-- a table of n zeros
+abbrev pub zeros : ℕ → List ℕ
+zeros n = replicate n 0
+
+pub zeros-cleared : (n : ℕ) → Cleared (zeros n)
+zeros-cleared n = record { zeros = λ r. go r (ltb r n) refl }
+  where
+    go : (r : ℕ) (b : Bool) → ltb r n ≡ b → getD (zeros n) r 0 ≡ 0
+    go r true e = getD-replicate n r 0 0 (ltb-true r n e)
+    go r false e = let past : length (zeros n) ≤ r = omega (arith, length-replicate {A = ℕ} n 0, ltb-false r n e) in List·getD-eq-default (zeros n) 0 past
+
+pub zeros-blank : (n : ℕ) → Blank (zeros n)
+zeros-blank n = record { first = zeros-cleared n .zeros 0 }
+
+zeros-roomy : (mode n : ℕ) → 1023 + mostRecords mode ≤ n → Roomy mode (zeros n) (zeros n) (zeros n)
+zeros-roomy mode n h = let e : length (zeros n) ≡ n = length-replicate {A = ℕ} n 0 in record { weights = rw e h; names = rw e h; links = rw e h }
+
+pub room-for-proof : Roomy 1 (zeros 4096) (zeros 4096) (zeros 4096)
+unfolding mostRecords ifEq
+room-for-proof = zeros-roomy 1 4096 (omega arith)
+
+pub room-for-derivation : Roomy 2 (zeros 201024) (zeros 201024) (zeros 201024)
+unfolding mostRecords ifEq
+room-for-derivation = zeros-roomy 2 201024 (omega arith)

@@ -9,10 +9,10 @@ ghost use mathlib.Core.Path.{_≡_};
 ghost use Prim.Native.Nat.{_+_, _<_, _≤_};
 ghost use lib.ListN.{length};
 ghost use mathlib.Core.List.{[]};
-ghost use Rattle.reader.specs.Places.{mostRecords, countOf, obligationReading, secondReading, reading};
+ghost use Rattle.reader.specs.Places.{mostRecords, countOf, rootOf, obligationReading, secondReading, reading};
 ghost use Rattle.records.specs.Weights.{Filled};
 ghost use Rattle.naming.specs.Totals.{Cleared};
-ghost use Rattle.reading.specs.Places.{recordsAndRoots, rootAndNaming, Blank};
+ghost use Rattle.reading.specs.Places.{recordsAndRoots, rootAndNaming, secondBody, Blank, Roomy};
 ghost use Rattle.reader.specs.Words.{word};
 
 // No refusal up to place 12.
@@ -67,4 +67,106 @@ pub fn obligation_reading(obligation: &[u8]) -> Answer
     let m = words::word_of(obligation, 0, 1);
     let mut table = [0u16; 1024];
     obligation_body(obligation, &obligation[0..0], m, &mut table)
+}
+
+// The root of a second file, and the naming of its rule nodes.
+fn root_and_naming(
+    obligation: &[u8],
+    second: &[u8],
+    m: usize,
+    mode: u8,
+    named: &mut [u8],
+    passed: &mut [u8],
+    last: usize,
+) -> Answer
+    requires { ⌜ (m ≤ last) × (last < length (now named)) × (last < length (now passed)) × Cleared (now named) × Cleared (now passed) ⌝ }
+    ensures { λ r. ⌜ r ≡ rootAndNaming mode (word (now (obligation .entry)) (now (second .entry)) m) (rootOf (now (second .entry))) m last ⌝ }
+{
+    let root = words::word_of(second, 0, 2);
+    if !kinds::is_rule(mode, words::word_at(obligation, second, m, root, 0)) {
+        return refused(11, 2);
+    }
+    naming::first_unnamed(obligation, second, m, mode, named, passed, last)
+}
+
+// The records of a second file of kind `mode`, up to `last`, its root and its naming. The tables are scratch.
+fn second_body(
+    obligation: &[u8],
+    second: &[u8],
+    m: usize,
+    mode: u8,
+    table: &mut [u16],
+    named: &mut [u8],
+    passed: &mut [u8],
+) -> Answer
+    requires { ⌜ (0 < mode) × (m + countOf (now second) < length (now table)) × (m + countOf (now second) < length (now named)) × (m + countOf (now second) < length (now passed)) × Blank (now table) × Cleared (now named) × Cleared (now passed) ⌝ }
+    ensures { λ r. ⌜ r ≡ secondBody mode (word (now (obligation .entry)) (now (second .entry)) m) m (countOf (now (second .entry))) (rootOf (now (second .entry))) ⌝ }
+{
+    let last = m + words::word_of(second, 0, 1);
+    faults::weigh_all(obligation, second, m, table, m);
+    let r = faults::first_fault(obligation, second, m, mode, table, m + 1, last);
+    if r.refusal != 0 {
+        return r;
+    }
+    root_and_naming(obligation, second, m, mode, named, passed, last)
+}
+
+// Places 1 to 12 of a second file of kind `mode`, beside an obligation of m records. The tables are scratch.
+fn second_reading(
+    obligation: &[u8],
+    second: &[u8],
+    m: usize,
+    mode: u8,
+    table: &mut [u16],
+    named: &mut [u8],
+    passed: &mut [u8],
+) -> Answer
+    requires { ⌜ (0 < mode) × (m ≡ countOf (now obligation)) × (m < 1024) × Roomy mode (now table) (now named) (now passed) × Blank (now table) × Cleared (now named) × Cleared (now passed) ⌝ }
+    ensures { λ r. ⌜ r ≡ secondReading mode (now (obligation .entry)) (now (second .entry)) ⌝ }
+{
+    if !headers::length_fits(mode, second) {
+        return refused(1, 2);
+    }
+    if !headers::counts_fit(obligation, second) {
+        return refused(2, 2);
+    }
+    second_body(obligation, second, m, mode, table, named, passed)
+}
+
+// Places 1 to 12 of an obligation and a proof.
+pub fn read_proof(obligation: &[u8], proof: &[u8]) -> Answer
+    ensures { λ r. ⌜ r ≡ reading 1 (now (obligation .entry)) (now (proof .entry)) ⌝ }
+{
+    let r = obligation_reading(obligation);
+    if r.refusal != 0 {
+        return r;
+    }
+    let m = words::word_of(obligation, 0, 1);
+    let mut table = [0u16; 4096];
+    let mut named = [0u8; 4096];
+    let mut passed = [0u8; 4096];
+    second_reading(obligation, proof, m, 1, &mut table, &mut named, &mut passed)
+}
+
+// Places 1 to 12 of an obligation and a derivation.
+pub fn read_derivation(obligation: &[u8], derivation: &[u8]) -> Answer
+    ensures { λ r. ⌜ r ≡ reading 2 (now (obligation .entry)) (now (derivation .entry)) ⌝ }
+{
+    let r = obligation_reading(obligation);
+    if r.refusal != 0 {
+        return r;
+    }
+    let m = words::word_of(obligation, 0, 1);
+    let mut table = [0u16; 201024];
+    let mut named = [0u8; 201024];
+    let mut passed = [0u8; 201024];
+    second_reading(
+        obligation,
+        derivation,
+        m,
+        2,
+        &mut table,
+        &mut named,
+        &mut passed,
+    )
 }
