@@ -1,0 +1,75 @@
+//! Time per call of the proved reading next to the second implementation's, on the same files.
+
+use compare::shapes::{shapes, Shape};
+use compare::threads::in_thread;
+use compare::{desk, second_read};
+use second::reader::Second;
+use second::Answer;
+use std::hint::black_box;
+use std::time::{Duration, Instant};
+
+const ROUNDS: usize = 7;
+/// No further round once this much time has gone.
+const ENOUGH: Duration = Duration::from_secs(3);
+const SLOW: Duration = Duration::from_secs(1);
+
+type Reading = fn(Second, &[u8], &[u8]) -> Answer;
+
+fn main() {
+    println!(
+        "{:<52} {:>7} {:>11} {:>11} {:>9} {:>9}  answer",
+        "name", "records", "proved ms", "second ms", "proved ns", "second ns"
+    );
+    let mut slow = Vec::new();
+    for kind in [Second::Proof, Second::Derivation] {
+        for shape in shapes(kind) {
+            if in_thread(|| measure(&shape)) > SLOW {
+                slow.push(shape.name);
+            }
+        }
+    }
+    match slow.is_empty() {
+        true => println!("none over 1 s"),
+        false => println!("over 1 s: {}", slow.join("; ")),
+    }
+}
+
+/// Prints the shape's row; gives back the proved reading's time.
+fn measure(shape: &Shape) -> Duration {
+    let (proved, found) = best(shape, desk::read);
+    let (second, wanted) = best(shape, second_read);
+    let records = shape.records();
+    let per_record = |time: Duration| time.as_nanos() as f64 / records as f64;
+    println!(
+        "{:<52} {:>7} {:>11.3} {:>11.3} {:>9.1} {:>9.1}  {}",
+        shape.name,
+        records,
+        milliseconds(proved),
+        milliseconds(second),
+        per_record(proved),
+        per_record(second),
+        found
+    );
+    assert_eq!(found, wanted, "{}", shape.name);
+    proved
+}
+
+fn milliseconds(time: Duration) -> f64 {
+    time.as_secs_f64() * 1_000.0
+}
+
+fn best(shape: &Shape, read: Reading) -> (Duration, Answer) {
+    let start = Instant::now();
+    let mut rounds = Vec::new();
+    let mut answer = Answer::accepted(0);
+    while rounds.len() < ROUNDS && start.elapsed() < ENOUGH {
+        let round = Instant::now();
+        answer = read(
+            shape.kind,
+            black_box(&shape.obligation),
+            black_box(&shape.second),
+        );
+        rounds.push(round.elapsed());
+    }
+    (rounds.into_iter().min().unwrap_or_default(), answer)
+}

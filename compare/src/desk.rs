@@ -1,0 +1,52 @@
+//! The C entries of the proved code. Each wants some MiB of stack (see [`crate::threads`]).
+
+use second::reader::Second;
+use second::Answer;
+
+type Entry = unsafe extern "C" fn(*const u8, usize, *const u8, usize) -> u64;
+
+extern "C" {
+    fn desk_read_proof(
+        obligation: *const u8,
+        obligation_len: usize,
+        proof: *const u8,
+        proof_len: usize,
+    ) -> u64;
+    fn desk_read_derivation(
+        obligation: *const u8,
+        obligation_len: usize,
+        derivation: *const u8,
+        derivation_len: usize,
+    ) -> u64;
+}
+
+/// The places before the walk; 0, 0, 0, 0 if none refuses.
+pub fn read(kind: Second, obligation: &[u8], second: &[u8]) -> Answer {
+    match kind {
+        Second::Proof => call(desk_read_proof, obligation, second),
+        Second::Derivation => call(desk_read_derivation, obligation, second),
+    }
+}
+
+fn call(entry: Entry, obligation: &[u8], second: &[u8]) -> Answer {
+    // SAFETY: both areas are lent for the call, each with its own length.
+    let packed = unsafe {
+        entry(
+            obligation.as_ptr(),
+            obligation.len(),
+            second.as_ptr(),
+            second.len(),
+        )
+    };
+    unpack(packed)
+}
+
+/// Refusal in bits 56 to 63, file in 48 to 55, record in 24 to 47, nodes in 0 to 23.
+pub fn unpack(packed: u64) -> Answer {
+    Answer::new(
+        packed >> 56,
+        packed >> 48 & 0xff,
+        packed >> 24 & 0xff_ffff,
+        packed & 0xff_ffff,
+    )
+}

@@ -1,0 +1,101 @@
+//! What a comparison counts and where it found a difference.
+
+use crate::{desk, second_read};
+use second::reader::Second;
+use second::Answer;
+use std::fmt::Write;
+
+/// Differences that are shown in full.
+const MOST_SHOWN: usize = 5;
+/// Longest file that is shown in full.
+const MOST_SHOWN_BYTES: usize = 4_096;
+
+#[derive(Default)]
+pub struct Tally {
+    pub cases: u64,
+    pub differences: u64,
+    /// How often each refusal was the answer, for each file; 0 is none.
+    pub refusals: [[u64; 3]; 13],
+    shown: Vec<String>,
+}
+
+impl Tally {
+    /// Compares the proved reading with the second implementation's.
+    pub fn compare(&mut self, label: &str, kind: Second, obligation: &[u8], second: &[u8]) {
+        let wanted = second_read(kind, obligation, second);
+        self.compare_with(label, kind, obligation, second, wanted);
+    }
+
+    /// Compares the proved reading with a known answer.
+    pub fn compare_with(
+        &mut self,
+        label: &str,
+        kind: Second,
+        obligation: &[u8],
+        second: &[u8],
+        wanted: Answer,
+    ) {
+        let found = desk::read(kind, obligation, second);
+        self.cases += 1;
+        self.refusals[wanted.refusal as usize][wanted.file as usize] += 1;
+        if found != wanted {
+            self.differences += 1;
+            self.show(label, kind, [obligation, second], [found, wanted]);
+        }
+    }
+
+    fn show(&mut self, label: &str, kind: Second, files: [&[u8]; 2], answers: [Answer; 2]) {
+        if self.shown.len() < MOST_SHOWN {
+            let [found, wanted] = answers;
+            let [obligation, second] = files.map(hex);
+            self.shown.push(format!(
+                "{label} ({kind:?}): {wanted} is wanted, the proved code gives {found}\n  ob {obligation}\n  second {second}"
+            ));
+        }
+    }
+
+    pub fn too_many(&self) -> bool {
+        self.shown.len() >= MOST_SHOWN
+    }
+
+    pub fn add(&mut self, other: Tally) {
+        self.cases += other.cases;
+        self.differences += other.differences;
+        for (mine, theirs) in self.refusals.iter_mut().zip(other.refusals) {
+            mine.iter_mut().zip(theirs).for_each(|(m, t)| *m += t);
+        }
+        self.shown.extend(other.shown);
+    }
+
+    pub fn sum(list: Vec<Tally>) -> Tally {
+        let mut sum = Tally::default();
+        list.into_iter().for_each(|tally| sum.add(tally));
+        sum
+    }
+
+    /// Prints the counts; panics if there was a difference.
+    pub fn report(&self, what: &str) {
+        println!("{what}: {} cases, {}", self.cases, self.counts());
+        assert!(
+            self.differences == 0,
+            "{what}: {} differ\n{}",
+            self.differences,
+            self.shown.join("\n")
+        );
+    }
+
+    fn counts(&self) -> String {
+        let mut text = format!("none {}", self.refusals[0][0]);
+        for (refusal, files) in self.refusals.iter().enumerate().skip(1) {
+            let _ = write!(text, ", {refusal}: {}+{}", files[1], files[2]);
+        }
+        text
+    }
+}
+
+fn hex(bytes: &[u8]) -> String {
+    if bytes.len() > MOST_SHOWN_BYTES {
+        return format!("({} bytes)", bytes.len());
+    }
+    bytes.iter().map(|byte| format!("{byte:02x}")).collect()
+}
