@@ -20,7 +20,10 @@ pub fn small_case(kind: Second, seed: u64, most: usize) -> Case {
 }
 
 pub fn random(rng: &mut Rng, most: usize) -> Vec<u8> {
-    let length = rng.below(most + 1);
+    let length = match rng.chance(50) {
+        true => 16 * rng.below(most / 16 + 1),
+        false => rng.below(most + 1),
+    };
     (0..length).map(|_| rng.next() as u8).collect()
 }
 

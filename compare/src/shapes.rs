@@ -272,7 +272,7 @@ pub fn type_arguments(kind: Second) -> Shape {
 }
 
 /// Constants whose names share their first seven bytes; the last name records are shared.
-pub fn names(kind: Second) -> Shape {
+pub fn names(kind: Second, most: u32) -> Shape {
     let mut sheet = Sheet::new(kind);
     sheet.end_obligation();
     let (given, end) = (sheet.given, sheet.end(1));
@@ -280,7 +280,7 @@ pub fn names(kind: Second) -> Shape {
     for number in 0.. {
         let tail = sheet.w.name(format!("{number}").as_bytes());
         for &letter in LETTERS {
-            if !sheet.is_before(end - 2) {
+            if symbols == most || !sheet.is_before(end - 2) {
                 return sheet.close(&format!("(c) {symbols} names, 7 bytes alike"));
             }
             let word = u32::from_le_bytes([b'a', b'a', b'a', letter]);
@@ -293,12 +293,12 @@ pub fn names(kind: Second) -> Shape {
 }
 
 /// Symbols of both sorts whose names have 32 bytes and share the first 24 of them.
-pub fn long_names(kind: Second) -> Shape {
+pub fn long_names(kind: Second, most: u32) -> Shape {
     let mut sheet = Sheet::new(kind);
     sheet.end_obligation();
     let (given, end) = (sheet.given, sheet.end(1));
     let mut symbols = 0;
-    while sheet.is_before(end - 6) {
+    while symbols < most && sheet.is_before(end - 6) {
         let name = format!("{}{symbols:08}", "a".repeat(24));
         let name = sheet.w.name(name.as_bytes());
         sheet.w.push(CONSTANT, given, name, 0);
@@ -309,14 +309,14 @@ pub fn long_names(kind: Second) -> Shape {
 }
 
 /// Many distinct names, then the first one again.
-pub fn name_taken(kind: Second) -> Shape {
+pub fn name_taken(kind: Second, most: u32) -> Shape {
     let mut sheet = Sheet::new(kind);
     sheet.end_obligation();
     let (given, end) = (sheet.given, sheet.end(1));
     let first = sheet.w.name(b"n0");
     sheet.w.push(CONSTANT, given, first, 0);
     let mut symbols = 1;
-    while sheet.is_before(end - 4) {
+    while symbols < most && sheet.is_before(end - 4) {
         let name = sheet.w.name(format!("n{symbols}").as_bytes());
         sheet.w.push(CONSTANT, given, name, 0);
         symbols += 1;
@@ -477,9 +477,9 @@ pub fn heavy_hypotheses(kind: Second) -> Shape {
     sheet.close("(f) 256 heavy hypotheses")
 }
 
-/// All shapes that are measured for one kind of second file.
-pub fn shapes(kind: Second) -> Vec<Shape> {
-    let makers: [fn(Second) -> Shape; 18] = [
+/// All shapes that are measured for one kind of second file, with at most so many symbols.
+pub fn shapes(kind: Second, symbols: u32) -> Vec<Shape> {
+    let makers: [fn(Second) -> Shape; 14] = [
         obligation,
         ordinary,
         equal_types,
@@ -487,20 +487,20 @@ pub fn shapes(kind: Second) -> Vec<Shape> {
         unequal_types,
         applications,
         type_arguments,
-        names,
-        long_names,
-        name_taken,
-        |kind| shared_premises(kind, false),
-        |kind| shared_premises(kind, true),
         last_unnamed,
         type_chain,
         name_chain,
         heavy_formulas,
         heavy_bodies,
         heavy_binders,
+        deep_binders,
     ];
     let mut list: Vec<Shape> = makers.iter().map(|make| make(kind)).collect();
-    list.push(deep_binders(kind));
     list.push(heavy_hypotheses(kind));
+    list.extend([false, true].map(|nodes| shared_premises(kind, nodes)));
+    list.push(names(kind, symbols));
+    list.push(long_names(kind, symbols / 2));
+    list.push(name_taken(kind, symbols));
+    list.sort_by(|x, y| x.name.cmp(&y.name));
     list
 }

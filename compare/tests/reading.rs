@@ -7,13 +7,14 @@ use compare::threads::{in_thread, in_threads};
 use compare::vectors::{vectors, FILES};
 use second::generate::limits::limits;
 use second::generate::rng::Rng;
+use second::generate::Case;
 use second::reader::Second;
 use second::Answer;
 
 const KINDS: [Second; 2] = [Second::Proof, Second::Derivation];
 const THREADS: u64 = 2;
 const CASES: u64 = 60_000;
-const RAW_CASES: u64 = 60_000;
+const RAW_CASES: u64 = 30_000;
 const MOST_RAW_BYTES: usize = 600;
 
 /// The number of generated cases of each kind: COMPARE_CASES, or the usual one.
@@ -104,36 +105,36 @@ fn raw_bytes() {
 
 fn raw(kind: Second, seed: u64) -> (&'static str, [Vec<u8>; 2]) {
     let mut rng = Rng::new(seed);
-    let rng = &mut rng;
-    let whole = small_case(kind, seed, MOST_RAW_BYTES);
-    let m = (whole.obligation.len() / 16).saturating_sub(1) as u32;
     match rng.below(6) {
-        0 => (
-            "random",
-            [random(rng, MOST_RAW_BYTES), random(rng, MOST_RAW_BYTES)],
-        ),
-        1 => (
-            "random second",
-            [whole.obligation, random(rng, MOST_RAW_BYTES)],
-        ),
-        2 => (
-            "random records",
-            [
-                random_records(rng, MOST_RAW_BYTES, None),
-                random_records(rng, MOST_RAW_BYTES, Some(0)),
-            ],
-        ),
+        0 => {
+            let files = [0; 2].map(|_| random(&mut rng, MOST_RAW_BYTES));
+            ("random", files)
+        }
+        1 => {
+            let first = random_records(&mut rng, MOST_RAW_BYTES, None);
+            let m = (first.len() / 16 - 1) as u32;
+            let second = random_records(&mut rng, MOST_RAW_BYTES, Some(m));
+            ("random records", [first, second])
+        }
+        which => damaged(&mut rng, which, small_case(kind, seed, MOST_RAW_BYTES)),
+    }
+}
+
+fn damaged(rng: &mut Rng, which: usize, case: Case) -> (&'static str, [Vec<u8>; 2]) {
+    let (first, mut second) = (case.obligation, case.second);
+    match which {
+        2 => ("random second", [first, random(rng, MOST_RAW_BYTES)]),
         3 => {
+            let m = (first.len() / 16).saturating_sub(1) as u32;
             let second = random_records(rng, MOST_RAW_BYTES, Some(m));
-            ("random second records", [whole.obligation, second])
+            ("random second records", [first, second])
         }
         4 => {
-            let mut second = whole.second;
             damage(rng, &mut second);
-            ("damaged second", [whole.obligation, second])
+            ("damaged second", [first, second])
         }
         _ => {
-            let mut files = [whole.obligation, whole.second];
+            let mut files = [first, second];
             files.iter_mut().for_each(|bytes| damage(rng, bytes));
             ("both damaged", files)
         }

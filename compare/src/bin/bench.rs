@@ -1,4 +1,5 @@
-//! Time per call of the proved reading next to the second implementation's, on the same files.
+//! `bench [SYMBOLS [NAME]]`: time per call of the proved reading next to the second implementation's, on
+//! the same files. At most SYMBOLS symbols where names are measured; only shapes with NAME in their name.
 
 use compare::shapes::{shapes, Shape};
 use compare::threads::in_thread;
@@ -12,17 +13,25 @@ const ROUNDS: usize = 7;
 /// No further round once this much time has gone.
 const ENOUGH: Duration = Duration::from_secs(3);
 const SLOW: Duration = Duration::from_secs(1);
+const USUAL_SYMBOLS: u32 = 4_000;
 
 type Reading = fn(Second, &[u8], &[u8]) -> Answer;
 
 fn main() {
+    let mut arguments = std::env::args().skip(1);
+    let symbols = match arguments.next() {
+        Some(text) => text.parse().expect("a number of symbols"),
+        None => USUAL_SYMBOLS,
+    };
+    let wanted = arguments.next().unwrap_or_default();
     println!(
         "{:<52} {:>7} {:>11} {:>11} {:>9} {:>9}  answer",
         "name", "records", "proved ms", "second ms", "proved ns", "second ns"
     );
     let mut slow = Vec::new();
     for kind in [Second::Proof, Second::Derivation] {
-        for shape in shapes(kind) {
+        let list = shapes(kind, symbols).into_iter();
+        for shape in list.filter(|shape| shape.name.contains(&wanted)) {
             if in_thread(|| measure(&shape)) > SLOW {
                 slow.push(shape.name);
             }

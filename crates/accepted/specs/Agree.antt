@@ -1,23 +1,22 @@
 -- Two readers that agree on records 0 to m say the same of each of them.
-use Prim.Native.Nat.{ℕ, zero, suc, _+_, _<_, _≤_}
+use Prim.Native.Nat.{ℕ, zero, suc, _<_, _≤_}
 use mathlib.Core.Path.{_≡_, refl, sym, ap, _∙_}
 use mathlib.Core.List.{List, [], _∷_, map}
-use mathlib.Core.Bool.{Bool, true, false, not, false≢true}
+use mathlib.Core.Bool.{Bool, true, false, not}
 use lib.Dec.{eqb, ltb, leb}
-use lib.ListN.{length, getD, drop}
+use lib.ListN.{length}
 use native.Mathlib.Omega.{arith}
-use borrow.Author.Tests.{eqb-true, eqb-false, ltb-true, ltb-false, leb-true, le-leb}
+use borrow.Author.Tests.{eqb-true, ltb-true, leb-true, le-leb}
 use Rattle.reader.specs.Words.{Reader}
-use Rattle.reader.specs.Tests.{both, every, ifEq, ifLt, ifTrue}
-use Rattle.reader.specs.Kinds.{isKind, isSymbol, isNumber, role}
+use Rattle.reader.specs.Tests.{both, every, ifEq, ifLt}
+use Rattle.reader.specs.Kinds.{role}
 use Rattle.reader.specs.At.{classAt, roleAt}
-use Rattle.reader.specs.Trees.{Tree, leaf, node, tree, lower, child, atom}
+use Rattle.reader.specs.Trees.{Tree, tree, lower, child, atom}
 use Rattle.reader.specs.Chains.{linked, items, itemTrees}
 use Rattle.reader.specs.Laws.{below, lower-below, child-below, tree-zero, tree-step, linked-zero, linked-step, items-zero, items-step}
-use Rattle.reader.specs.Weight.{isWeighed, weight}
-use Rattle.reader.specs.Names.{nameOf, nameSpace, bytesOf, recordBytes, nameBytes, characters, name, hasBytes, startsWell, isName, sameName, takenBelow, nameTaken}
+use Rattle.reader.specs.Names.{nameOf, nameSpace, recordBytes, nameBytes, characters, name, hasBytes, isName, sameName, takenBelow, nameTaken}
 use Rattle.reader.specs.Typing.{signature, functionTyped, applicationTyped, isTyped}
-use Rattle.reader.specs.Records.{inRange, rangeAt, mayBeZero, wantedClass, itemClass, hasClass, itemsHaveClass, refers, refersAt, nameFits, typesFit, argumentsFit, chainsOf, mostWeight, weightFits, nameStands, nameIsFree, typingFits}
+use Rattle.reader.specs.Records.{inRange, rangeAt, mayBeZero, wantedClass, itemClass, hasClass, itemsHaveClass, refers, refersAt, nameFits, typesFit, argumentsFit, chainsOf, weightFits, nameStands, nameIsFree, typingFits}
 use Rattle.accepted.specs.Scan.{every-head}
 use Rattle.accepted.specs.Record.{Sound, word-most, name-most}
 
@@ -123,11 +122,11 @@ module _ (rd other : Reader) (m : ℕ) (agree : (i w : ℕ) → i ≤ m → rd i
           let l2 : child rd (suc n) 2 < suc n = child-below rd (suc n) 2 (omega arith) in
           let l3 : child rd (suc n) 3 < suc n = child-below rd (suc n) 3 (omega arith) in
           let e1 : tree rd (child rd (suc n) 1) ≡ tree other (child other (suc n) 1) =
-              f (child rd (suc n) 1) l1 (omega arith) ∙ ap (tree other) (child-agrees (suc n) 1 h) in
+          f (child rd (suc n) 1) l1 (omega arith) ∙ ap (tree other) (child-agrees (suc n) 1 h) in
           let e2 : tree rd (child rd (suc n) 2) ≡ tree other (child other (suc n) 2) =
-              f (child rd (suc n) 2) l2 (omega arith) ∙ ap (tree other) (child-agrees (suc n) 2 h) in
+          f (child rd (suc n) 2) l2 (omega arith) ∙ ap (tree other) (child-agrees (suc n) 2 h) in
           let e3 : tree rd (child rd (suc n) 3) ≡ tree other (child other (suc n) 3) =
-              f (child rd (suc n) 3) l3 (omega arith) ∙ ap (tree other) (child-agrees (suc n) 3 h) in
+          f (child rd (suc n) 3) l3 (omega arith) ∙ ap (tree other) (child-agrees (suc n) 3 h) in
           rw (tree-step rd (suc n) (omega arith), tree-step other (suc n) (omega arith), agree (suc n) 0 h, atom-agrees (suc n) h, e1, e2, e3)
 
   -- the records of a chain
@@ -139,7 +138,7 @@ module _ (rd other : Reader) (m : ℕ) (agree : (i w : ℕ) → i ≤ m → rd i
       step (suc n) f h =
           let less : lower rd (suc n) 3 < suc n = lower-below rd (suc n) 3 (omega arith) in
           let rest : linked rd (lower rd (suc n) 3) ≡ linked other (lower other (suc n) 3) =
-              f (lower rd (suc n) 3) less (omega arith) ∙ ap (linked other) (lower-agrees (suc n) 3 h) in
+          f (lower rd (suc n) 3) less (omega arith) ∙ ap (linked other) (lower-agrees (suc n) 3 h) in
           linked-step rd (suc n) (omega arith) ∙ ap (λ (xs : List ℕ). suc n ∷ xs) rest ∙ sym (linked-step other (suc n) (omega arith))
 
   -- the items of a chain
@@ -151,7 +150,7 @@ module _ (rd other : Reader) (m : ℕ) (agree : (i w : ℕ) → i ≤ m → rd i
       step (suc n) f h =
           let less : lower rd (suc n) 3 < suc n = lower-below rd (suc n) 3 (omega arith) in
           let rest : items rd (lower rd (suc n) 3) ≡ items other (lower other (suc n) 3) =
-              f (lower rd (suc n) 3) less (omega arith) ∙ ap (items other) (lower-agrees (suc n) 3 h) in
+          f (lower rd (suc n) 3) less (omega arith) ∙ ap (items other) (lower-agrees (suc n) 3 h) in
           items-step rd (suc n) (omega arith) ∙ ap (λ (xs : List ℕ). lower rd (suc n) 1 ∷ xs) rest
           ∙ ap (λ (x : ℕ). x ∷ items other (lower other (suc n) 3)) (lower-agrees (suc n) 1 h) ∙ sym (items-step other (suc n) (omega arith))
 
@@ -170,16 +169,16 @@ module _ (rd other : Reader) (m : ℕ) (agree : (i w : ℕ) → i ≤ m → rd i
   unfolding itemsHaveClass
   items-class-agrees c j h =
       let e : every (hasClass rd c) (items rd j) ≡ every (hasClass other c) (items other j) =
-          every-same m (hasClass rd c) (hasClass other c) (items rd j) (items-within rd m j h) (class-agrees c)
-          ∙ ap (every (hasClass other c)) (items-agrees j h) in
+      every-same m (hasClass rd c) (hasClass other c) (items rd j) (items-within rd m j h) (class-agrees c)
+      ∙ ap (every (hasClass other c)) (items-agrees j h) in
       ap (λ (b : Bool). ifEq c 0 true b) e
 
   refers-agrees : (i r a : ℕ) → i ≤ m → refers rd i r a ≡ refers other i r a
   unfolding refers
   refers-agrees i r a h =
       let e : both (ltb a i) (both (hasClass rd (wantedClass r) a) (itemsHaveClass rd (itemClass r) a))
-            ≡ both (ltb a i) (both (hasClass other (wantedClass r) a) (itemsHaveClass other (itemClass r) a)) =
-          both-same (ltb a i) _ _ (λ l. go (ltb-true a i l)) in
+      ≡ both (ltb a i) (both (hasClass other (wantedClass r) a) (itemsHaveClass other (itemClass r) a)) =
+      both-same (ltb a i) _ _ (λ l. go (ltb-true a i l)) in
       ap (λ (b : Bool). ifLt r 6 true (ifEq a 0 (mayBeZero r) b)) e
     where
       go : a < i → both (hasClass rd (wantedClass r) a) (itemsHaveClass rd (itemClass r) a)
@@ -214,13 +213,13 @@ module _ (rd other : Reader) (m : ℕ) (agree : (i w : ℕ) → i ≤ m → rd i
       let m2 : lower rd i 2 ≤ i = lower-most rd i 2 in
       let m3 : lower rd i 3 ≤ i = lower-most rd i 3 in
       let e1 : rd (lower rd i 1) 2 ≡ other (lower other i 1) 2 =
-          agree (lower rd i 1) 2 (omega arith) ∙ ap (λ (x : ℕ). other x 2) (lower-agrees i 1 h) in
+      agree (lower rd i 1) 2 (omega arith) ∙ ap (λ (x : ℕ). other x 2) (lower-agrees i 1 h) in
       let e2 : itemTrees rd (lower rd i 2) ≡ itemTrees other (lower other i 2) =
-          item-trees-agree (lower rd i 2) (omega arith) ∙ ap (itemTrees other) (lower-agrees i 2 h) in
+      item-trees-agree (lower rd i 2) (omega arith) ∙ ap (itemTrees other) (lower-agrees i 2 h) in
       let e3 : itemTrees rd (lower rd i 3) ≡ itemTrees other (lower other i 3) =
-          item-trees-agree (lower rd i 3) (omega arith) ∙ ap (itemTrees other) (lower-agrees i 3 h) in
+      item-trees-agree (lower rd i 3) (omega arith) ∙ ap (itemTrees other) (lower-agrees i 3 h) in
       let e4 : signature rd (lower rd i 1) ≡ signature other (lower other i 1) =
-          signature-agrees (lower rd i 1) (omega arith) ∙ ap (signature other) (lower-agrees i 1 h) in
+      signature-agrees (lower rd i 1) (omega arith) ∙ ap (signature other) (lower-agrees i 1 h) in
       rw (e1, e2, e3, e4)
 
   pub typed-agrees : (i : ℕ) → i ≤ m → isTyped rd i ≡ isTyped other i
@@ -261,8 +260,8 @@ module _ (rd other : Reader) (m : ℕ) (agree : (i w : ℕ) → i ≤ m → rd i
     unfolding isName
     is-name-agrees =
         let e : every (hasBytes rd) (linked rd (nameOf rd i)) ≡ every (hasBytes other) (linked other (nameOf other i)) =
-            every-same m (hasBytes rd) (hasBytes other) (linked rd (nameOf rd i)) (linked-within rd m (nameOf rd i) near) has-bytes-agrees
-            ∙ ap (every (hasBytes other)) name-records-agree in
+        every-same m (hasBytes rd) (hasBytes other) (linked rd (nameOf rd i)) (linked-within rd m (nameOf rd i) near) has-bytes-agrees
+        ∙ ap (every (hasBytes other)) name-records-agree in
         rw (e, name-agrees)
 
   taken-agrees : (space : ℕ) (cs : List ℕ) (n : ℕ) → n ≤ m → ((j : ℕ) → 1 ≤ j → j ≤ n → nameOf rd j ≤ m) →
@@ -271,10 +270,10 @@ module _ (rd other : Reader) (m : ℕ) (agree : (i w : ℕ) → i ≤ m → rd i
   taken-agrees space cs zero h near = refl
   taken-agrees space cs (suc n) h near =
       let rest : takenBelow rd space cs n ≡ takenBelow other space cs n =
-          taken-agrees space cs n (omega arith) (λ j p q. near j p (omega arith)) in
+      taken-agrees space cs n (omega arith) (λ j p q. near j p (omega arith)) in
       let head : both (eqb (nameSpace (rd (suc n) 0)) space) (sameName (name rd (suc n)) cs)
-            ≡ both (eqb (nameSpace (other (suc n) 0)) space) (sameName (name other (suc n)) cs) =
-          rw (agree (suc n) 0 h, name-agrees (suc n) h (near (suc n) (omega arith) (omega arith))) in
+      ≡ both (eqb (nameSpace (other (suc n) 0)) space) (sameName (name other (suc n)) cs) =
+      rw (agree (suc n) 0 h, name-agrees (suc n) h (near (suc n) (omega arith) (omega arith))) in
       either-same head rest
 
   pub name-taken-agrees : (i : ℕ) → i ≤ m → ((j : ℕ) → 1 ≤ j → j ≤ i → nameOf rd j ≤ m) → nameTaken rd i ≡ nameTaken other i
@@ -343,5 +342,5 @@ module _ (rd other : Reader) (m : ℕ) (agree : (i w : ℕ) → i ≤ m → rd i
       weighs = rw (← agree i 0 h, ← tree-agrees i h) (own .weighs);
       named = sym stands-agrees ∙ own .named;
       free = sym free-agrees ∙ own .free;
-      typed = rw (← typed-agrees i h) (own .typed)
+      typed = rw (← typed-agrees i h) (own .typed);
     }

@@ -1,25 +1,24 @@
 -- What files give that pass places 1 to 12.
-use Prim.Native.Nat.{ℕ, zero, suc, _+_, _*_, _-_, _/_, _%_, _<_, _≤_}
+use Prim.Native.Nat.{ℕ, _+_, _%_, _≤_}
 use mathlib.Core.Path.{_≡_, refl, sym, ap, _∙_}
-use mathlib.Core.List.{List, [], _∷_}
-use mathlib.Core.Bool.{Bool, true, false, false≢true}
-use lib.Dec.{eqb, ltb, leb}
-use lib.ListN.{length, getD}
+use mathlib.Core.List.{List, []}
+use mathlib.Core.Bool.{Bool, true, false}
+use lib.Dec.{eqb, leb}
+use lib.ListN.{length}
 use native.Mathlib.Omega.{arith}
-use borrow.Author.Tests.{eq-eqb, ne-eqb, eqb-true, eqb-false, ltb-true, ltb-false, leb-true, le-leb}
+use borrow.Author.Tests.{eq-eqb, eqb-true, eqb-false, leb-true}
 use Rattle.reader.specs.declared.Answer.{Answer}
-use Rattle.reader.specs.Words.{Reader, wordOf, through, word, recordCount}
-use Rattle.reader.specs.WordLaws.{word-past}
-use Rattle.reader.specs.Tests.{both, either, demand, every, ifEq, ifLt, ifTrue, between}
-use Rattle.reader.specs.Kinds.{isRule, isKind, class}
-use Rattle.reader.specs.Trees.{Tree, leaf, tree, kindOf}
-use Rattle.reader.specs.Chains.{linked, items, itemTrees}
+use Rattle.reader.specs.Words.{Reader, wordOf, word, recordCount}
+use Rattle.reader.specs.Tests.{both, demand, every, ifEq, ifTrue}
+use Rattle.reader.specs.Kinds.{isRule}
+use Rattle.reader.specs.Trees.{Tree, tree}
+use Rattle.reader.specs.Chains.{linked, itemTrees}
 use Rattle.reader.specs.Laws.{linked-zero, items-zero}
 use Rattle.reader.specs.Variables.{indicesBelow, typesBelow, isClosed}
 use Rattle.reader.specs.Records.{recordFault}
-use Rattle.reader.specs.Answers.{accepted, placed, orAnswer, firstFault}
+use Rattle.reader.specs.Answers.{accepted}
 use Rattle.reader.specs.Places.{mostRecords, lengthFits, headerFits, hypothesisChain, negatedGoal, rootOf, countOf, countsFit, goalFits, isHypothesis, typeCount, hypothesisFits, hypothesesFit, namings, namingFault, obligationReading, secondReading, reading}
-use Rattle.accepted.specs.Scan.{both-parts, both-join, demand-parts, demand-join, orAnswer-parts, orAnswer-join, placed-parts, placed-pass, scan-parts, scan-join, when-equal, when-different, when-less, when-not-less, when-true, between-parts, every-at}
+use Rattle.accepted.specs.Scan.{both-parts, both-join, demand-parts, demand-join, orAnswer-parts, orAnswer-join, placed-parts, placed-pass, scan-parts, scan-join, when-different, when-true}
 use Rattle.accepted.specs.Record.{Sound, record-parts, record-join}
 
 -- the records of an obligation by itself
@@ -82,7 +81,7 @@ obligation-parts ob h =
       header = placed-parts (headerFits ob) 2 1 0 (b .0) refl;
       sound = λ i p q. record-parts 0 (alone ob) i (scan-parts (recordFault 0 (alone ob)) 1 (countOf ob) 1 (c .0) i p (omega arith));
       goal = both-fit .0;
-      hypotheses = both-fit .1
+      hypotheses = both-fit .1;
     }
 
 pub obligation-join : (ob : List ℕ) → ReadObligation ob → obligationReading ob ≡ accepted 0
@@ -107,10 +106,10 @@ second-parts mode ob s h =
       lengthOf = placed-parts (lengthFits mode s) 1 2 0 (a .0) refl;
       counts = placed-parts (countsFit ob s) 2 2 0 (b .0) refl;
       sound = λ i p q. record-parts mode (beside ob s) i
-        (scan-parts (recordFault mode (beside ob s)) 2 (countOf s) (countOf ob + 1) (c .0) i p (omega arith));
+          (scan-parts (recordFault mode (beside ob s)) 2 (countOf s) (countOf ob + 1) (c .0) i p (omega arith));
       root = placed-parts (isRule mode (beside ob s (rootOf s) 0)) 11 2 0 (d .0) refl;
       once = λ i p q. naming-parts mode (beside ob s) (rootOf s) (lastOf ob s) i
-        (scan-parts (namingFault mode (beside ob s) (rootOf s) (lastOf ob s)) 2 (countOf s) (countOf ob + 1) (d .1) i p (omega arith))
+          (scan-parts (namingFault mode (beside ob s) (rootOf s) (lastOf ob s)) 2 (countOf s) (countOf ob + 1) (d .1) i p (omega arith));
     }
 
 pub second-join : (mode : ℕ) (ob s : List ℕ) → ReadSecond mode ob s → secondReading mode ob s ≡ accepted 0
@@ -119,10 +118,10 @@ second-join mode ob s r =
     let a = placed-pass (lengthFits mode s) 1 2 0 (r .lengthOf) in
     let b = placed-pass (countsFit ob s) 2 2 0 (r .counts) in
     let c = scan-join (recordFault mode (beside ob s)) 2 (countOf s) (countOf ob + 1)
-        (λ j p q. record-join mode (beside ob s) j (r .sound j p (omega arith))) in
+    (λ j p q. record-join mode (beside ob s) j (r .sound j p (omega arith))) in
     let d = placed-pass (isRule mode (beside ob s (rootOf s) 0)) 11 2 0 (r .root) in
     let e = scan-join (namingFault mode (beside ob s) (rootOf s) (lastOf ob s)) 2 (countOf s) (countOf ob + 1)
-        (λ j p q. naming-join mode (beside ob s) (rootOf s) (lastOf ob s) j (r .once j p (omega arith))) in
+    (λ j p q. naming-join mode (beside ob s) (rootOf s) (lastOf ob s) j (r .once j p (omega arith))) in
     orAnswer-join _ _ (ap (λ (x : Answer). x .refusal) a) ∙ orAnswer-join _ _ (ap (λ (x : Answer). x .refusal) b)
     ∙ orAnswer-join _ _ (ap (λ (x : Answer). x .refusal) c) ∙ orAnswer-join _ _ (ap (λ (x : Answer). x .refusal) d) ∙ e
 

@@ -1,6 +1,9 @@
 pub mod Scan
 pub mod Record
 pub mod Parts
+pub mod Classes
+pub mod Links
 pub mod File
 pub mod Agree
 pub mod Pair
+pub mod Named

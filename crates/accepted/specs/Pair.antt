@@ -1,28 +1,31 @@
 -- An obligation and a second file that both passed, through one numbering.
 use Prim.Native.Nat.{ℕ, zero, suc, _+_, _*_, _-_, _/_, _%_, _<_, _≤_}
-use mathlib.Core.Path.{_≡_, refl, sym, ap, _∙_}
-use mathlib.Core.List.{List, [], _∷_}
+use mathlib.Core.Path.{_≡_, refl, sym, ap, subst, _∙_}
+use mathlib.Core.List.{List, []}
 use mathlib.Core.Bool.{Bool, true, false, false≢true}
 use lib.Dec.{eqb, ltb, leb}
 use lib.ListN.{length}
 use native.Mathlib.Omega.{arith}
-use borrow.Author.Tests.{eqb-true, eqb-false, ltb-true, ltb-false, leb-true, le-leb, lt-ltb}
+use borrow.Author.Tests.{ltb-true, ltb-false, le-leb, lt-ltb}
 use Rattle.reader.specs.Words.{Reader, wordOf, through, word, recordCount}
 use Rattle.reader.specs.WordLaws.{word-past}
 use Rattle.reader.specs.Tests.{every, ifEq, ifLt, ifTrue, between}
-use Rattle.reader.specs.Kinds.{isRule, isKind, isSymbol}
-use Rattle.reader.specs.Trees.{Tree, tree}
-use Rattle.reader.specs.Chains.{linked, items, itemTrees}
+use Rattle.reader.specs.Kinds.{isRule, isKind, isSymbol, class}
+use Rattle.reader.specs.At.{classAt}
+use Rattle.reader.specs.Trees.{tree, lower, ¬ᵗ_}
+use Rattle.reader.specs.Chains.{linked, items, itemTrees, parts, premises}
 use Rattle.reader.specs.Variables.{isClosed}
 use Rattle.reader.specs.Weight.{isWeighed, weight}
-use Rattle.reader.specs.Names.{nameOf, nameSpace, name, nameTaken}
+use Rattle.reader.specs.Names.{nameSpace, name}
 use Rattle.reader.specs.Typing.{isTyped}
 use Rattle.reader.specs.Records.{mostWeight, weightFits, typingFits}
-use Rattle.reader.specs.Places.{hypothesisChain, negatedGoal, rootOf, countOf, hypothesisFits, hypothesesFit}
-use Rattle.accepted.specs.Scan.{when-equal, when-different, when-less, when-not-less, when-true, between-parts}
+use Rattle.reader.specs.Places.{hypothesisChain, negatedGoal, rootOf, countOf, hypothesisFits, namings}
+use Rattle.accepted.specs.Scan.{when-less, when-not-less, between-parts}
 use Rattle.accepted.specs.Record.{Sound, weight-limit, is-typed, name-not-taken, symbol-named, names-differ}
-use Rattle.accepted.specs.File.{alone, beside, lastOf, ReadObligation, ReadSecond, length-parts, header-parts, counts-parts, goal-parts, hypotheses-link, each-hypothesis}
-use Rattle.accepted.specs.Agree.{tree-agrees, linked-agrees, items-agrees, item-trees-agree, sound-agrees}
+use Rattle.accepted.specs.Parts.{Chain, not-tree, rule-parts, rule-premises}
+use Rattle.accepted.specs.Links.{items-given}
+use Rattle.accepted.specs.File.{alone, beside, lastOf, ReadObligation, ReadSecond, length-parts, header-parts, counts-parts, goal-parts, hypotheses-link, each-hypothesis, hypotheses-limit}
+use Rattle.accepted.specs.Agree.{lower-most, tree-agrees, linked-agrees, items-agrees, item-trees-agree, sound-agrees}
 
 -- Words of the one numbering.
 
@@ -118,7 +121,7 @@ sound-anywhere mode rd i s =
       weighs = weighs (isWeighed (rd i 0)) refl;
       named = s .named;
       free = s .free;
-      typed = typed (eqb mode 2)
+      typed = typed (eqb mode 2);
     }
   where
     weighs : (b : Bool) → isWeighed (rd i 0) ≡ b → _≡_ {A = Bool} (elim b [ true ↦ leb (weight (tree rd i)) (mostWeight mode) | false ↦ true ]) true
@@ -127,6 +130,7 @@ sound-anywhere mode rd i s =
         let least : mostWeight 0 ≤ mostWeight mode = least-weight mode in
         le-leb (weight (tree rd i)) (mostWeight mode) (omega arith)
     weighs false e = refl
+
     typed : (b : Bool) → _≡_ {A = Bool} (elim b [ true ↦ true | false ↦ isTyped rd i ]) true
     typed true = refl
     typed false = is-typed 0 rd i s (λ e. absurd (omega arith))
@@ -208,6 +212,7 @@ module _ (mode : ℕ) (ob s : List ℕ) (r : ReadObligation ob) (t : ReadSecond 
               let own = obligation-sound ob s r (suc n) (omega arith) (ltb-false (countOf ob) (suc n) e) in
               let most : beside ob s (suc n) 0 ≤ 22 = kind-or-rule 0 (beside ob s (suc n) 0) (own .kind) (no-rule (beside ob s (suc n) 0)) .1 in
               absurd (omega arith)
+
       high : (b : Bool) → ltb (lastOf ob s) n ≡ b → n ≤ lastOf ob s
       high true e =
           let z : beside ob s n 0 ≡ 0 = beside-past mode ob s t n 0 (ltb-true (lastOf ob s) n e) in
@@ -229,3 +234,90 @@ module _ (mode : ℕ) (ob s : List ℕ) (r : ReadObligation ob) (t : ReadSecond 
       names-differ (beside ob s) i j a c differ
       (name-not-taken mode (beside ob s) i x (symbol-named mode (beside ob s) i x p))
       (name-not-taken mode (beside ob s) j y (symbol-named mode (beside ob s) j y q))
+
+  -- The goal and the hypotheses, through the one numbering.
+
+  -- the goal is a record of the obligation
+  pub pair-goal-range : (1 ≤ negatedGoal (beside ob s)) × (negatedGoal (beside ob s) ≤ countOf ob)
+  pair-goal-range =
+      let g = goal-range ob r in
+      let same : negatedGoal (alone ob) ≡ negatedGoal (beside ob s) = obligation-goal ob s in
+      (rw (← same) (g .0), rw (← same) (g .1))
+
+  -- its kind is that of ¬
+  pub pair-goal-kind : beside ob s (negatedGoal (beside ob s)) 0 ≡ 18
+  pair-goal-kind =
+      ap (λ (g : ℕ). beside ob s g 0) (sym (obligation-goal ob s))
+      ∙ sym (alone-beside ob s (negatedGoal (alone ob)) 0 (goal-range ob r .1)) ∙ goal-parts (alone ob) (r .goal) .0
+
+  -- it is closed
+  pub pair-goal-closed : isClosed (tree (beside ob s) (negatedGoal (beside ob s))) ≡ true
+  pair-goal-closed =
+      ap (λ (g : ℕ). isClosed (tree (beside ob s) g)) (sym (obligation-goal ob s))
+      ∙ ap isClosed (sym (obligation-tree ob s (negatedGoal (alone ob)) (goal-range ob r .1))) ∙ goal-parts (alone ob) (r .goal) .1
+
+  -- and the negation of the tree of its first word
+  pub pair-goal-tree : tree (beside ob s) (negatedGoal (beside ob s)) ≡ ¬ᵗ (tree (beside ob s) (beside ob s (negatedGoal (beside ob s)) 1))
+  pair-goal-tree =
+      let g = pair-goal-range in
+      not-tree 0 (beside ob s) (negatedGoal (beside ob s)) (obligation-sound ob s r (negatedGoal (beside ob s)) (g .0) (g .1)) (g .0) pair-goal-kind
+
+  -- the chain of hypotheses is in the obligation
+  pub pair-hypotheses-range : hypothesisChain (beside ob s) ≤ countOf ob
+  pair-hypotheses-range =
+      let same : hypothesisChain (alone ob) ≡ hypothesisChain (beside ob s) = obligation-hypotheses ob s in rw (← same) (hypotheses-range ob r)
+
+  -- its trees are those that the obligation has by itself
+  pub pair-hypotheses-same : itemTrees (alone ob) (hypothesisChain (alone ob)) ≡ itemTrees (beside ob s) (hypothesisChain (beside ob s))
+  pair-hypotheses-same =
+      obligation-item-trees ob s (hypothesisChain (alone ob)) (hypotheses-range ob r) ∙ ap (itemTrees (beside ob s)) (obligation-hypotheses ob s)
+
+  -- and each fits
+  pub pair-hypotheses : every hypothesisFits (itemTrees (beside ob s) (hypothesisChain (beside ob s))) ≡ true
+  pair-hypotheses = ap (every hypothesisFits) (sym pair-hypotheses-same) ∙ each-hypothesis (alone ob) (r .hypotheses)
+
+  -- there are at most 256
+  pub pair-hypotheses-limit : length (linked (beside ob s) (hypothesisChain (beside ob s))) ≤ 256
+  pair-hypotheses-limit =
+      let same : linked (alone ob) (hypothesisChain (alone ob)) ≡ linked (beside ob s) (hypothesisChain (beside ob s)) =
+      obligation-linked ob s (hypothesisChain (alone ob)) (hypotheses-range ob r) ∙ ap (linked (beside ob s)) (obligation-hypotheses ob s) in
+      let most : length (linked (alone ob) (hypothesisChain (alone ob))) ≤ 256 = hypotheses-limit (alone ob) (r .hypotheses) in
+      subst (λ (xs : List ℕ). length xs ≤ 256) same most
+
+  -- they start with a link, unless there are none
+  pub pair-hypotheses-link : (hypothesisChain (beside ob s) ≡ 0 → ⊥) → classAt (beside ob s) (hypothesisChain (beside ob s)) ≡ 1
+  unfolding classAt class
+  pair-hypotheses-link differ =
+      let same : hypothesisChain (alone ob) ≡ hypothesisChain (beside ob s) = obligation-hypotheses ob s in
+      let link : alone ob (hypothesisChain (alone ob)) 0 ≡ 1 = hypotheses-link (alone ob) (r .hypotheses) (λ z. differ (sym same ∙ z)) in
+      let kind : beside ob s (hypothesisChain (beside ob s)) 0 ≡ 1 =
+      ap (λ (g : ℕ). beside ob s g 0) (sym same) ∙ sym (alone-beside ob s (hypothesisChain (alone ob)) 0 (hypotheses-range ob r)) ∙ link in
+      ap class kind
+
+  -- Rule nodes.
+
+  -- a rule node has no fault, and is named exactly once
+  pub rule-sound : (n : ℕ) → isRule mode (beside ob s n 0) ≡ true → Sound mode (beside ob s) n
+  rule-sound n h = let g = rule-range n h in t .sound n (g .0) (g .1)
+
+  pub rule-once : (n : ℕ) → isRule mode (beside ob s n 0) ≡ true → ifEq (rootOf s) n 1 0 + namings mode (beside ob s) n (lastOf ob s) ≡ 1
+  rule-once n h = let g = rule-range n h in t .once n (g .0) (g .1) h
+
+  -- its parts and its premises are records, none of them 0
+  pub rule-parts-given : (n : ℕ) → isRule mode (beside ob s n 0) ≡ true → every (λ x. ltb 0 x) (parts (beside ob s) n) ≡ true
+  unfolding parts
+  rule-parts-given n h =
+      let c : Chain (beside ob s) n 1 0 = rule-parts mode (beside ob s) n (rule-sound n h) (rule-kind mode (beside ob s n 0) h .0) in
+      let most : n ≤ lastOf ob s = rule-range n h .1 in
+      let least : lower (beside ob s) n 1 ≤ n = lower-most (beside ob s) n 1 in
+      items-given mode (beside ob s) (lastOf ob s) pair-sound (lower (beside ob s) n 1) (omega arith)
+      (λ differ. ap (classAt (beside ob s)) (c .names) ∙ c .class (λ z. differ (c .names ∙ z)))
+
+  pub rule-premises-given : (n : ℕ) → isRule mode (beside ob s n 0) ≡ true → every (λ x. ltb 0 x) (premises (beside ob s) n) ≡ true
+  unfolding premises
+  rule-premises-given n h =
+      let c : Chain (beside ob s) n 2 0 = rule-premises mode (beside ob s) n (rule-sound n h) (rule-kind mode (beside ob s n 0) h .0) in
+      let most : n ≤ lastOf ob s = rule-range n h .1 in
+      let least : lower (beside ob s) n 2 ≤ n = lower-most (beside ob s) n 2 in
+      items-given mode (beside ob s) (lastOf ob s) pair-sound (lower (beside ob s) n 2) (omega arith)
+      (λ differ. ap (classAt (beside ob s)) (c .names) ∙ c .class (λ z. differ (c .names ∙ z)))

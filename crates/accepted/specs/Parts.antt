@@ -1,20 +1,19 @@
 -- What each kind of record says, where the record has no fault: its tree, and the records that its words name.
-use Prim.Native.Nat.{ℕ, zero, suc, _+_, _<_, _≤_}
+use Prim.Native.Nat.{ℕ, _<_, _≤_}
 use mathlib.Core.Path.{_≡_, refl, sym, ap, _∙_}
-use mathlib.Core.Bool.{Bool, true, false, false≢true}
+use mathlib.Core.Bool.{Bool, true, false}
 use lib.Dec.{eqb, ltb}
 use native.Mathlib.Omega.{arith}
-use borrow.Author.Tests.{eqb-true, eqb-false, ltb-true}
+use borrow.Author.Tests.{eqb-true, eqb-false}
 use Rattle.reader.specs.Words.{Reader}
-use Rattle.reader.specs.Tests.{every, ifEq, ifLt, ifTrue}
+use Rattle.reader.specs.Tests.{ifEq, ifLt}
 use Rattle.reader.specs.Kinds.{isSymbol, isNumber, ruleRole, role}
 use Rattle.reader.specs.At.{classAt, roleAt}
 use Rattle.reader.specs.Trees.{Tree, leaf, node, tree, lower, child, atom}
-use Rattle.reader.specs.Chains.{items, parts, premises}
 use Rattle.reader.specs.Laws.{tree-zero, tree-step}
 use Rattle.reader.specs.Records.{mayBeZero, wantedClass, itemClass, hasClass, itemsHaveClass, refersAt}
-use Rattle.accepted.specs.Scan.{when-equal, when-less, when-not-less, when-true, when-false}
-use Rattle.accepted.specs.Record.{Sound, role-known, reference-zero, reference-given, reference-below, reference-class, reference-items, reference-lower, class-is, items-are, word-zero, word-three, word-four, word-index, word-count}
+use Rattle.accepted.specs.Scan.{when-less, when-not-less, when-true, when-false}
+use Rattle.accepted.specs.Record.{Sound, role-known, reference-given, reference-below, reference-class, reference-items, reference-lower, class-is, word-three, word-four, word-index, word-count}
 
 -- a reference that is 0 names no record
 pub lower-zero : (rd : Reader) (i w : ℕ) → rd i w ≡ 0 → lower rd i w ≡ 0
@@ -71,7 +70,7 @@ module _ (mode : ℕ) (rd : Reader) (i : ℕ) (s : Sound mode rd i) (k : ℕ) (e
           given = omega arith;
           smaller = reference-below rd i w fits is given;
           names = reference-lower rd i w fits is given;
-          class = class-is rd c (rd i w) (ap (λ (x : ℕ). hasClass rd x (rd i w)) (sym wanted) ∙ reference-class rd i w fits is given) differ
+          class = class-is rd c (rd i w) (ap (λ (x : ℕ). hasClass rd x (rd i w)) (sym wanted) ∙ reference-class rd i w fits is given) differ;
         }
 
     pub chain-of : (r c : ℕ) → role k w ≡ r → 6 ≤ r → wantedClass r ≡ 1 → itemClass r ≡ c → Chain rd i w c
@@ -85,8 +84,8 @@ module _ (mode : ℕ) (rd : Reader) (i : ℕ) (s : Sound mode rd i) (k : ℕ) (e
           names = reference-is (rw er h);
           smaller = reference-below rd i w fits is;
           class = λ given. class-is rd 1 (rd i w) (ap (λ (x : ℕ). hasClass rd x (rd i w)) (sym wanted) ∙ reference-class rd i w fits is given)
-            (λ z. absurd (omega arith));
-          itemsOf = λ given. ap (λ (x : ℕ). itemsHaveClass rd x (rd i w)) (sym wantedItems) ∙ reference-items rd i w fits is given
+              (λ z. absurd (omega arith));
+          itemsOf = λ given. ap (λ (x : ℕ). itemsHaveClass rd x (rd i w)) (sym wantedItems) ∙ reference-items rd i w fits is given;
         }
 
     -- a type, a term, a formula, a function, a name
@@ -521,3 +520,16 @@ module _ (mode : ℕ) (rd : Reader) (i : ℕ) (s : Sound mode rd i) where
   pub rule-premises : 32 ≤ rd i 0 → Chain rd i 2 0
   unfolding role ruleRole
   rule-premises h = rule-chain mode rd i s (rd i 0) refl 2 (omega arith) (omega arith) (when-not-less _ (ruleRole 2) (rd i 0) 32 h)
+
+  -- the name record after a name record is one, or 0
+  pub name-third : rd i 0 ≡ 2 → (lower rd i 3 ≡ rd i 3) × ((rd i 3 ≡ 0 → ⊥) → classAt rd (rd i 3) ≡ 2)
+  unfolding role ifLt wantedClass
+  name-third e =
+      let same : roleAt rd i 3 ≡ 7 = role-known rd i 3 2 e in
+      let is : 6 ≤ roleAt rd i 3 = omega arith in
+      let fits = s .reference 3 (omega arith) (omega arith) in
+      let wanted : wantedClass (roleAt rd i 3) ≡ 2 = ap wantedClass same in (
+        reference-is mode rd i s 2 e 3 (omega arith) (omega arith) (omega arith),
+        λ given. class-is rd 2 (rd i 3) (ap (λ (x : ℕ). hasClass rd x (rd i 3)) (sym wanted) ∙ reference-class rd i 3 fits is given)
+            (λ z. absurd (omega arith)),
+      )

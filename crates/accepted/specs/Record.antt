@@ -1,17 +1,17 @@
 -- What a record gives that has none of the refusals 3 to 10.
-use Prim.Native.Nat.{ℕ, zero, suc, _+_, _<_, _≤_}
+use Prim.Native.Nat.{ℕ, zero, suc, _<_, _≤_}
 use mathlib.Core.Path.{_≡_, refl, sym, ap, _∙_}
 use mathlib.Core.List.{List, [], _∷_}
 use mathlib.Core.Bool.{Bool, true, false, not, false≢true}
-use lib.Dec.{eqb, ltb, leb}
+use lib.Dec.{eqb, ltb}
 use lib.ListN.{length}
 use native.Mathlib.Omega.{arith}
-use borrow.Author.Tests.{eq-eqb, ne-eqb, eqb-true, eqb-false, lt-ltb, le-ltb, ltb-true, ltb-false, leb-true, not-true}
+use borrow.Author.Tests.{eq-eqb, eqb-true, eqb-false, ltb-true, ltb-false, leb-true, not-true}
 use Rattle.reader.specs.Words.{Reader}
-use Rattle.reader.specs.Tests.{both, demand, orElse, every, ifEq, ifLt, ifTrue, between}
+use Rattle.reader.specs.Tests.{both, every, ifEq, ifLt}
 use Rattle.reader.specs.Kinds.{isKind, isSymbol, role}
 use Rattle.reader.specs.At.{classAt, roleAt}
-use Rattle.reader.specs.Trees.{tree, lower, child}
+use Rattle.reader.specs.Trees.{tree, lower}
 use Rattle.reader.specs.Chains.{linked, items}
 use Rattle.reader.specs.Weight.{isWeighed, weight}
 use Rattle.reader.specs.Names.{nameOf, nameSpace, name, isName, sameName, takenBelow, nameTaken}
@@ -66,7 +66,7 @@ record-parts mode rd i h =
       weighs = w .0;
       named = n .0;
       free = t .0;
-      typed = y .0
+      typed = y .0;
     }
 
 -- and the other way round
@@ -74,11 +74,11 @@ pub record-join : (mode : ℕ) (rd : Reader) (i : ℕ) → Sound mode rd i → r
 unfolding recordFault wordsFault contentFault kindFits rangesFit referencesFit chainsFit
 record-join mode rd i s =
     let ranges : rangesFit rd i ≡ true =
-        both-join (rangeAt rd i 1) (both (rangeAt rd i 2) (rangeAt rd i 3)) (s .range 1 (omega arith) (omega arith))
-        (both-join (rangeAt rd i 2) (rangeAt rd i 3) (s .range 2 (omega arith) (omega arith)) (s .range 3 (omega arith) (omega arith))) in
+    both-join (rangeAt rd i 1) (both (rangeAt rd i 2) (rangeAt rd i 3)) (s .range 1 (omega arith) (omega arith))
+    (both-join (rangeAt rd i 2) (rangeAt rd i 3) (s .range 2 (omega arith) (omega arith)) (s .range 3 (omega arith) (omega arith))) in
     let references : referencesFit rd i ≡ true =
-        both-join (refersAt rd i 1) (both (refersAt rd i 2) (refersAt rd i 3)) (s .reference 1 (omega arith) (omega arith))
-        (both-join (refersAt rd i 2) (refersAt rd i 3) (s .reference 2 (omega arith) (omega arith)) (s .reference 3 (omega arith) (omega arith))) in
+    both-join (refersAt rd i 1) (both (refersAt rd i 2) (refersAt rd i 3)) (s .reference 1 (omega arith) (omega arith))
+    (both-join (refersAt rd i 2) (refersAt rd i 3) (s .reference 2 (omega arith) (omega arith)) (s .reference 3 (omega arith) (omega arith))) in
     let chains : chainsFit rd i ≡ true = both-join (nameFits rd i) (chainsOf rd i) (s .nameLength) (s .chains) in
     orElse-join (wordsFault mode rd i) (contentFault mode rd i)
     (demand-join _ 3 _ (s .kind) (demand-join _ 4 _ ranges (demand-join _ 5 _ references (demand-join _ 6 0 chains refl))))

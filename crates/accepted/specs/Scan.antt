@@ -1,12 +1,12 @@
 -- Tests one after the other that all passed, taken apart, and put together again.
 use Prim.Native.Nat.{ℕ, zero, suc, _+_, _<_, _≤_}
-use mathlib.Core.Path.{_≡_, refl, sym, ap, _∙_}
+use mathlib.Core.Path.{_≡_, refl, sym, _∙_}
 use mathlib.Core.List.{List, [], _∷_}
-use mathlib.Core.Bool.{Bool, true, false, not, false≢true}
+use mathlib.Core.Bool.{Bool, true, false, false≢true}
 use lib.Dec.{eqb, ltb, leb}
 use lib.ListN.{length, getD}
 use native.Mathlib.Omega.{arith}
-use borrow.Author.Tests.{eq-eqb, ne-eqb, eqb-true, eqb-false, lt-ltb, le-ltb, ltb-true, ltb-false, leb-true}
+use borrow.Author.Tests.{eq-eqb, ne-eqb, eqb-true, eqb-false, lt-ltb, le-ltb, ltb-false, leb-true}
 use Rattle.reader.specs.declared.Answer.{Answer}
 use Rattle.reader.specs.Tests.{both, either, demand, orElse, every, ifEq, ifLt, ifTrue, between}
 use Rattle.reader.specs.Answers.{answer, accepted, placed, orAnswer, firstFault}
