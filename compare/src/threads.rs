@@ -1,5 +1,6 @@
 //! Threads with the main thread's usual stack.
 
+use std::panic::resume_unwind;
 use std::thread::{scope, Builder};
 
 pub const STACK_BYTES: usize = 8 << 20;
@@ -15,10 +16,9 @@ pub fn in_threads<T: Send>(count: u64, work: impl Fn(u64) -> T + Sync) -> Vec<T>
                 .expect("a thread starts")
         };
         let running: Vec<_> = (0..count).map(start).collect();
-        let join = |thread: std::thread::ScopedJoinHandle<T>| thread.join();
         running
             .into_iter()
-            .map(|thread| join(thread).unwrap_or_else(|fault| std::panic::resume_unwind(fault)))
+            .map(|thread| thread.join().unwrap_or_else(|fault| resume_unwind(fault)))
             .collect()
     })
 }

@@ -14,7 +14,7 @@ use Rattle.reader.specs.Names.{nameOf, nameSpace, bytesOf, recordBytes, trimmed
 use Rattle.reader.specs.Variables.{binders, isIndex, replaced, bears, isBound, indicesBelow, isTypeBelow, typesBelow, isClosed, isConstant, occurs, instance}
 use Rattle.reader.specs.Typing.{typeOf, sameAll, pairTyped, productTyped, powersetTyped, equalTyped, memberTyped, forAllTyped, constantTyped, signature, functionTyped, applicationTyped, isTyped}
 use Rattle.reader.specs.Answers.{placed, orAnswer, firstFault}
-use Rattle.reader.specs.Records.{inRange, rangeAt, rangesFit, mayBeZero, wantedClass, itemClass, hasClass, itemsHaveClass, refers, refersAt, referencesFit, nameFits, typesFit, argumentsFit, chainsFit, mostWeight, weightFits, nameStands, nameIsFree, typingFits, kindFits, wordsFault, contentFault, recordFault}
+use Rattle.reader.specs.Records.{inRange, rangeAt, rangesFit, mayBeZero, wantedClass, itemClass, hasClass, itemsHaveClass, refers, refersAt, referencesFit, nameFits, typesFit, argumentsFit, chainsOf, chainsFit, mostWeight, weightFits, nameStands, nameIsFree, typingFits, kindFits, wordsFault, contentFault, recordFault}
 use Rattle.reader.specs.Places.{mostRecords, lengthFits, headerFits, countsFit, goalFits, isHypothesis, typeCount, hypothesisFits, hypothesesFit, timesIn, namings, namingFault, obligationReading, secondReading, reading}
 use Rattle.reader.specs.Shapes.{hasShape, haveShapes}
 use Rattle.reader.specs.Walk.{andThen, nodeStep, linkStep, walkStep, walks, walkNode, walkLinks}
@@ -50,5 +50,5 @@ gives c = c .answer
 
 -- The definition's answers, one after the other. Its line `unfolding` lets the examples compute, from the bytes on.
 unfoldable pub answersOf : List Case → List Answer
-unfolding wordFrom wordOf through word recordCount iter down both either demand orElse ifEq ifLt ifTrue between every isRule isKind class ruleRole role isNumber isSymbol kindAt classAt roleAt lower child atom treeStep tree kindOf atomOf firstOf secondOf thirdOf sameHead same linkedStep linked items itemTrees parts premises isWeighed ownWeight weight nameOf nameSpace bytesOf recordBytes trimmed nameBytes isLetter isDigitOrUnderscore single accented characters name hasBytes startsWell isName sameName takenBelow nameTaken binders isIndex replaced bears isBound indicesBelow isTypeBelow typesBelow isClosed isConstant occurs instance typeOf sameAll pairTyped productTyped powersetTyped equalTyped memberTyped forAllTyped constantTyped signature functionTyped applicationTyped isTyped placed orAnswer firstFault inRange rangeAt rangesFit mayBeZero wantedClass itemClass hasClass itemsHaveClass refers refersAt referencesFit nameFits typesFit argumentsFit chainsFit mostWeight weightFits nameStands nameIsFree typingFits kindFits wordsFault contentFault recordFault mostRecords lengthFits headerFits countsFit goalFits isHypothesis typeCount hypothesisFits hypothesesFit timesIn namings namingFault obligationReading secondReading reading hasShape haveShapes andThen nodeStep linkStep walkStep walks walkNode walkLinks row member isFresh rowOf premisesFit hasRoom rowFault nodeFault premiseSequent startSequent proofWalk proofAnswer
+unfolding wordFrom wordOf through word recordCount iter down both either demand orElse ifEq ifLt ifTrue between every isRule isKind class ruleRole role isNumber isSymbol kindAt classAt roleAt lower child atom treeStep tree kindOf atomOf firstOf secondOf thirdOf sameHead same linkedStep linked items itemTrees parts premises isWeighed ownWeight weight nameOf nameSpace bytesOf recordBytes trimmed nameBytes isLetter isDigitOrUnderscore single accented characters name hasBytes startsWell isName sameName takenBelow nameTaken binders isIndex replaced bears isBound indicesBelow isTypeBelow typesBelow isClosed isConstant occurs instance typeOf sameAll pairTyped productTyped powersetTyped equalTyped memberTyped forAllTyped constantTyped signature functionTyped applicationTyped isTyped placed orAnswer firstFault inRange rangeAt rangesFit mayBeZero wantedClass itemClass hasClass itemsHaveClass refers refersAt referencesFit nameFits typesFit argumentsFit chainsOf chainsFit mostWeight weightFits nameStands nameIsFree typingFits kindFits wordsFault contentFault recordFault mostRecords lengthFits headerFits countsFit goalFits isHypothesis typeCount hypothesisFits hypothesesFit timesIn namings namingFault obligationReading secondReading reading hasShape haveShapes andThen nodeStep linkStep walkStep walks walkNode walkLinks row member isFresh rowOf premisesFit hasRoom rowFault nodeFault premiseSequent startSequent proofWalk proofAnswer
 answersOf cases = map (λ (c : Case). proofAnswer (c .obligation) (c .proof)) cases
