@@ -1,9 +1,9 @@
 -- Names of symbols: the definitions that loops over records follow, and the ways out of the code.
-use Prim.Native.Nat.{ℕ, zero, suc, _-_, _<_}
+use Prim.Native.Nat.{ℕ, zero, suc, _-_}
 use mathlib.Core.Path.{_≡_, refl, sym, ap, _∙_}
 use mathlib.Core.List.{List, _∷_}
 use mathlib.Core.Bool.{Bool, true, false, not}
-use lib.Dec.{eqb, leb, leb·zero, leb·suc-zero, leb·suc-suc}
+use lib.Dec.{eqb, leb}
 use lib.ListN.{length}
 use native.Mathlib.Omega.{arith}
 use borrow.Author.Tests.{eq-eqb, ne-eqb, not-true, not-false}
@@ -11,17 +11,13 @@ use Rattle.reader.specs.Words.{Reader}
 use Rattle.reader.specs.Tests.{both, every}
 use Rattle.reader.specs.Trees.{lower}
 use Rattle.reader.specs.Chains.{linked}
-use Rattle.reader.specs.Laws.{lower-below, linked-zero, linked-step}
+use Rattle.reader.specs.Laws.{linked-zero, linked-step}
 use Rattle.reader.specs.Names.{nameOf, nameSpace, characters, name, hasBytes, startsWell, isName, sameName, takenBelow, nameTaken}
 use Rattle.reader.specs.Records.{nameFits, nameStands, nameIsFree}
 use Rattle.names.specs.Cursor.{restBytes, isSpelled}
 use Rattle.names.specs.Laws.{rest-start}
 
--- the chain from record c on has at most n records
-unfoldable pub atMost : Reader → ℕ → ℕ → Bool
-atMost rd c n = leb (length (linked rd c)) n
-
--- none of its records is empty
+-- no record of the chain from record c on is empty
 unfoldable pub allHaveBytes : Reader → ℕ → Bool
 allHaveBytes rd c = every (hasBytes rd) (linked rd c)
 
@@ -29,28 +25,8 @@ allHaveBytes rd c = every (hasBytes rd) (linked rd c)
 unfoldable pub takes : Reader → ℕ → List ℕ → ℕ → Bool
 takes rd space cs n = both (eqb (nameSpace (rd n 0)) space) (sameName (name rd n) cs)
 
-pub chain-falls : (rd : Reader) (c d : ℕ) → (c ≡ 0 → ⊥) → d ≡ lower rd c 3 → d < c
-chain-falls rd c d p e = omega (arith, lower-below rd c 3 (omega arith))
-
--- The ways out of `at_most`.
-module _ (rd : Reader) (first most c left : ℕ) (inv : atMost rd first most ≡ atMost rd c left) where
-  pub most-end : c ≡ 0 → true ≡ atMost rd first most
-  unfolding atMost
-  most-end z = rw (inv, z, linked-zero rd) (sym (leb·zero left))
-
-  module _ (p : c ≡ 0 → ⊥) where
-    pub most-stop : left ≡ 0 → false ≡ atMost rd first most
-    unfolding atMost
-    most-stop z = rw (inv, z, linked-step rd c (omega arith)) (sym (leb·suc-zero (length (linked rd (lower rd c 3)))))
-
-    pub most-go : (left ≡ 0 → ⊥) → (d : ℕ) → d ≡ lower rd c 3 → atMost rd first most ≡ atMost rd d (left - 1)
-    unfolding atMost
-    most-go n d e =
-        let one : left ≡ suc (left - 1) = omega arith in
-        inv ∙ rw (linked-step rd c (omega arith), ← e) (ap (leb (suc (length (linked rd d)))) one ∙ leb·suc-suc (length (linked rd d)) (left - 1))
-
-pub fits-is : (rd : Reader) (i c : ℕ) (r : Bool) → c ≡ nameOf rd i → r ≡ atMost rd c 4 → r ≡ nameFits rd i
-unfolding nameFits atMost
+pub fits-is : (rd : Reader) (i c : ℕ) (r : Bool) → c ≡ nameOf rd i → r ≡ leb (length (linked rd c)) 4 → r ≡ nameFits rd i
+unfolding nameFits
 fits-is rd i c r e q = rw (← e) q
 
 -- The ways out of `has_bytes`.

@@ -2,6 +2,7 @@
 pub mod bytes;
 pub mod characters;
 
+use reader::chains;
 use reader::trees;
 use reader::words;
 ghost use mathlib.Core.Path.{_≡_};
@@ -9,7 +10,7 @@ ghost use Rattle.reader.specs.Words.{word};
 ghost use Rattle.reader.specs.Names.{nameOf, nameSpace, characters, hasBytes, nameTaken};
 ghost use Rattle.reader.specs.Records.{nameFits, nameStands, nameIsFree};
 ghost use Rattle.names.specs.Cursor.{restBytes};
-ghost use Rattle.names.specs.Symbols.{atMost, allHaveBytes, takes};
+ghost use Rattle.names.specs.Symbols.{allHaveBytes, takes};
 
 // What was read, where there was `more`: a byte or a character, and the cursor behind it, a record of the name and an offset in its bytes.
 pub struct Step {
@@ -17,22 +18,6 @@ pub struct Step {
     pub value: usize,
     pub at: usize,
     pub offset: usize,
-}
-
-// Has a chain at most `most` records? No more than that are looked at.
-fn at_most(obligation: &[u8], second: &[u8], m: usize, first: usize, most: usize) -> bool
-    ensures { λ r. ⌜ r ≡ atMost (word (now (obligation .entry)) (now (second .entry)) m) first most ⌝ }
-{
-    let mut c = first;
-    let mut left = most;
-    while c != 0 {
-        if left == 0 {
-            return false;
-        }
-        c = trees::lower_at(obligation, second, m, c, 3);
-        left -= 1;
-    }
-    true
 }
 
 // The name record that symbol i names; 0 for a record that is no symbol.
@@ -72,7 +57,7 @@ fn space_of(k: usize) -> usize
 pub fn name_fits(obligation: &[u8], second: &[u8], m: usize, i: usize) -> bool
     ensures { λ r. ⌜ r ≡ nameFits (word (now (obligation .entry)) (now (second .entry)) m) i ⌝ }
 {
-    at_most(obligation, second, m, name_of(obligation, second, m, i), 4)
+    chains::at_most(obligation, second, m, name_of(obligation, second, m, i), 4)
 }
 
 // Is name record i not empty?

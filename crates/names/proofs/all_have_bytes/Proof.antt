@@ -1,7 +1,8 @@
 use borrow.Author.Needs.{needs}
 use mathlib.Core.Path.{_≡_, refl}
 use Rattle.reader.specs.Words.{word}
-use Rattle.names.specs.Symbols.{allHaveBytes, chain-falls, all-stop, all-go, all-end}
+use Rattle.names.specs.Symbols.{allHaveBytes, all-stop, all-go, all-end}
+use Rattle.reader.specs.ChainLaws.{next-falls}
 use Rattle.names.proofs.all_have_bytes.Statement.{statement}
 use Rattle.names.proofs.all_have_bytes.Tie as tie
 
@@ -23,7 +24,7 @@ all-have-bytes-spec = tie.close (tie.spec
     -- lower-at-requires: if1; 1 has-bytes; 2 loop-test; 3 loop; 6 args
     (λ c κs. search needs)
     -- loop-less: lower-at; 1 if1; 2 has-bytes; 3 loop-test; 4 loop; 7 args
-    (λ c. search chain-falls)
+    (λ c. search next-falls)
     -- loop-again: lower-at; 1 if1; 2 has-bytes; 3 loop-test; 4 loop; 7 args
     (λ c. search all-go)
     -- returns-2: loop-test; 1 loop; 4 args
