@@ -3,7 +3,7 @@ use mathlib.Core.Path.{_≡_, refl}
 use mathlib.Core.List.{List, [], _∷_, map}
 use Rattle.reader.specs.declared.Answer.{Answer}
 use Rattle.reader.specs.Answers.{answer}
-use Rattle.proof_check.specs.Files.{Words, r, bytes, Case, gives, answersOf}
+use Rattle.proof_rules.specs.Files.{Words, r, bytes, Case, gives, answersOf}
 
 abbrev trap : List Words → List Words → Answer → Case
 trap obligation proof expected = record { obligation = bytes obligation; proof = bytes proof; answer = expected }

@@ -5,7 +5,7 @@ use mathlib.Core.List.{List, [], _∷_, map}
 use lib.ListN.{set, take}
 use Rattle.reader.specs.declared.Answer.{Answer}
 use Rattle.reader.specs.Answers.{answer}
-use Rattle.proof_check.specs.Files.{Words, r, bytes, Case, gives, answersOf}
+use Rattle.proof_rules.specs.Files.{Words, r, bytes, Case, gives, answersOf}
 
 abbrev obligation1 : List Words
 obligation1 = r 1 6 0 6 ∷ r 2 83 0 0 ∷ r 3 1 0 0 ∷ r 9 0 2 0 ∷ r 20 3 3 0 ∷ r 19 2 4 0 ∷ r 18 5 0 0 ∷ []

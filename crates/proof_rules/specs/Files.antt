@@ -18,8 +18,8 @@ use Rattle.reader.specs.Records.{inRange, rangeAt, rangesFit, mayBeZero, wanted
 use Rattle.reader.specs.Places.{mostRecords, lengthFits, headerFits, countsFit, goalFits, isHypothesis, typeCount, hypothesisFits, hypothesesFit, timesIn, namings, namingFault, obligationReading, secondReading, reading}
 use Rattle.reader.specs.Shapes.{hasShape, haveShapes}
 use Rattle.reader.specs.Walk.{andThen, nodeStep, linkStep, walkStep, walks, walkNode, walkLinks}
-use Rattle.proof_check.specs.Rules.{row}
-use Rattle.proof_check.specs.Check.{member, isFresh, rowOf, premisesFit, hasRoom, rowFault, nodeFault, premiseSequent, startSequent, proofWalk, proofAnswer}
+use Rattle.proof_rules.specs.Rules.{row}
+use Rattle.proof_rules.specs.Check.{member, isFresh, rowOf, premisesFit, hasRoom, rowFault, nodeFault, premiseSequent, startSequent, proofWalk, proofAnswer}
 
 -- a record's words k, a, b, c
 pub record Words : Type 0 where

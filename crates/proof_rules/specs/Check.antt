@@ -15,7 +15,7 @@ use Rattle.reader.specs.Answers.{orAnswer}
 use Rattle.reader.specs.Places.{hypothesisChain, negatedGoal, rootOf, countOf, reading}
 use Rattle.reader.specs.Shapes.{haveShapes}
 use Rattle.reader.specs.Walk.{walkNode}
-use Rattle.proof_check.specs.Rules.{Row, row}
+use Rattle.proof_rules.specs.Rules.{Row, row}
 
 -- t is a member of the sequent
 unfoldable pub member : Tree → List Tree → Bool

@@ -1,0 +1,105 @@
+// Replacement: is a record what another one is with index 0 replaced?
+use reader::trees;
+use reader::words;
+ghost use mathlib.Core.Path.{_≡_};
+ghost use Prim.Native.Nat.{_+_, _<_, _≤_};
+ghost use Rattle.reader.specs.Words.{word};
+ghost use Rattle.reader.specs.Trees.{tree, same};
+ghost use Rattle.reader.specs.Variables.{replaced};
+ghost use Rattle.replacement.specs.Fits.{indexAt, deeper, fits, fitsChild};
+
+// Is record j the bound variable with index d?
+fn is_index(obligation: &[u8], second: &[u8], m: usize, j: usize, d: usize) -> bool
+    ensures { λ r. ⌜ r ≡ indexAt (word (now (obligation .entry)) (now (second .entry)) m) j d ⌝ }
+{
+    if words::word_at(obligation, second, m, j, 0) != 9 {
+        return false;
+    }
+    trees::atom_at(obligation, second, m, j) == d
+}
+
+// The index that stands for d below word 2 of record j.
+fn deeper_at(obligation: &[u8], second: &[u8], m: usize, j: usize, d: usize) -> usize
+    requires { ⌜ d < 18446744073709551615 ⌝ }
+    ensures { λ r. ⌜ (r ≡ deeper (word (now (obligation .entry)) (now (second .entry)) m) j d) × (r ≤ d + 1) ⌝ }
+{
+    if words::word_at(obligation, second, m, j, 0) == 19 {
+        d + 1
+    } else {
+        d
+    }
+}
+
+fn fits_child(
+    obligation: &[u8],
+    second: &[u8],
+    m: usize,
+    i: usize,
+    j: usize,
+    t: usize,
+    d: usize,
+    w: u8,
+) -> bool
+    requires { ⌜ (0 < j) × (d + j ≤ 18446744073709551616) ⌝ }
+    ensures { λ r. ⌜ r ≡ fitsChild (word (now (obligation .entry)) (now (second .entry)) m) i j t d w ⌝ }
+{
+    fits_at(
+        obligation,
+        second,
+        m,
+        trees::child_at(obligation, second, m, i, w),
+        trees::child_at(obligation, second, m, j, w),
+        t,
+        d,
+    )
+}
+
+// Is record i what record j is with record t in place of index d?
+fn fits_at(
+    obligation: &[u8],
+    second: &[u8],
+    m: usize,
+    i: usize,
+    j: usize,
+    t: usize,
+    d: usize,
+) -> bool
+    requires { ⌜ d + j < 18446744073709551616 ⌝ }
+    ensures { λ r. ⌜ r ≡ fits (word (now (obligation .entry)) (now (second .entry)) m) i j t d ⌝ }
+{
+    if j == 0 {
+        return i == 0;
+    }
+    if is_index(obligation, second, m, j, d) {
+        return trees::same_at(obligation, second, m, i, t);
+    }
+    if i == 0 {
+        return false;
+    }
+    if !trees::same_head(obligation, second, m, i, j) {
+        return false;
+    }
+    if !fits_child(obligation, second, m, i, j, t, d, 1) {
+        return false;
+    }
+    if !fits_child(
+        obligation,
+        second,
+        m,
+        i,
+        j,
+        t,
+        deeper_at(obligation, second, m, j, d),
+        2,
+    ) {
+        return false;
+    }
+    fits_child(obligation, second, m, i, j, t, d, 3)
+}
+
+// "B(t) is B with index 0 replaced": is record i record j with record t in place of index 0?
+pub fn is_replaced(obligation: &[u8], second: &[u8], m: usize, i: usize, t: usize, j: usize) -> bool
+    ensures { λ r. ⌜ r ≡ same (tree (word (now (obligation .entry)) (now (second .entry)) m) i) (replaced 0 (tree (word (now (obligation .entry)) (now (second .entry)) m) t) (tree (word (now (obligation .entry)) (now (second .entry)) m) j)) ⌝ }
+{
+    fits_at(obligation, second, m, i, j, t, 0)
+}
