@@ -7,3 +7,6 @@ pub mod File
 pub mod Agree
 pub mod Pair
 pub mod Named
+pub mod Sums
+pub mod Under
+pub mod Entered
