@@ -1,0 +1,6 @@
+pub mod Keys
+pub mod Makers
+pub mod Sequents
+pub mod Signs
+pub mod Added
+pub mod Marks

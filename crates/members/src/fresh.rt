@@ -1,0 +1,162 @@
+// Freshness: a constant is in no member. The records from the constant's on are marked first, each once, so that shared records are not visited again.
+use reader::trees;
+use reader::words;
+ghost use mathlib.Core.Path.{_≡_};
+ghost use Prim.Native.Nat.{_+_, _<_, _≤_};
+ghost use lib.ListN.{length, take};
+ghost use Rattle.reader.specs.Words.{word};
+ghost use Rattle.reader.specs.Trees.{tree};
+ghost use Rattle.reader.specs.Variables.{occurs};
+ghost use Rattle.proof_rules.specs.Check.{isFresh};
+ghost use Rattle.members.specs.Keys.{decoded, Normal};
+ghost use Rattle.members.specs.Sequents.{sequent, Ready};
+ghost use Rattle.members.specs.Marks.{Marked, markOf, constantAt, partMarked};
+
+// Is constant c in record x, by the marks of the records below n?
+fn is_marked(
+    obligation: &[u8],
+    second: &[u8],
+    m: usize,
+    memory: &[usize],
+    c: usize,
+    n: usize,
+    x: usize,
+) -> bool
+    requires { ⌜ (length (now memory) ≡ 5120) × (n ≤ 4096) × (x < n) × Marked (word (now obligation) (now second) m) c (now memory) n ⌝ }
+    ensures { λ r. ⌜ r ≡ occurs c (tree (word (now (obligation .entry)) (now (second .entry)) m) x) ⌝ }
+{
+    if x < c {
+        return false;
+    }
+    memory[1024 + x] == 1
+}
+
+// Is constant c in what word w of record j refers to?
+fn part_marked(
+    obligation: &[u8],
+    second: &[u8],
+    m: usize,
+    memory: &[usize],
+    c: usize,
+    j: usize,
+    w: u8,
+) -> bool
+    requires { ⌜ (length (now memory) ≡ 5120) × (0 < j) × (j ≤ 4096) × Marked (word (now obligation) (now second) m) c (now memory) j ⌝ }
+    ensures { λ r. ⌜ r ≡ partMarked (word (now (obligation .entry)) (now (second .entry)) m) c j w ⌝ }
+{
+    let x = trees::child_at(obligation, second, m, j, w);
+    is_marked(obligation, second, m, memory, c, j, x)
+}
+
+// Is record j the constant c?
+fn is_constant(obligation: &[u8], second: &[u8], m: usize, c: usize, j: usize) -> bool
+    ensures { λ r. ⌜ r ≡ constantAt (word (now (obligation .entry)) (now (second .entry)) m) c j ⌝ }
+{
+    if j != c {
+        return false;
+    }
+    words::word_at(obligation, second, m, j, 0) == 7
+}
+
+// The mark of record j, 1 where constant c is in it, from the marks of the smaller records.
+fn mark_of(
+    obligation: &[u8],
+    second: &[u8],
+    m: usize,
+    memory: &[usize],
+    c: usize,
+    j: usize,
+) -> usize
+    requires { ⌜ (length (now memory) ≡ 5120) × (j ≤ 4096) × Marked (word (now obligation) (now second) m) c (now memory) j ⌝ }
+    ensures { λ r. ⌜ r ≡ markOf (occurs c (tree (word (now (obligation .entry)) (now (second .entry)) m) j)) ⌝ }
+{
+    if j == 0 {
+        return 0;
+    }
+    if is_constant(obligation, second, m, c, j) {
+        return 1;
+    }
+    if part_marked(obligation, second, m, memory, c, j, 1) {
+        return 1;
+    }
+    if part_marked(obligation, second, m, memory, c, j, 2) {
+        return 1;
+    }
+    if part_marked(obligation, second, m, memory, c, j, 3) {
+        return 1;
+    }
+    0
+}
+
+// Marks the records from c on, below n.
+fn mark_all(obligation: &[u8], second: &[u8], m: usize, memory: &mut [usize], c: usize, n: usize)
+    requires { ⌜ (length (now memory) ≡ 5120) × (n ≤ 4096) ⌝ }
+    ensures { λ _. ⌜ Marked (word (now (obligation .entry)) (now (second .entry)) m) c (now (memory .exit)) n × (take 1024 (now (memory .exit)) ≡ take 1024 (now (memory .entry))) ⌝ }
+{
+    let mut j = c;
+    while j < n {
+        memory[1024 + j] = mark_of(obligation, second, m, memory, c, j);
+        j += 1;
+    }
+}
+
+// Is constant c in the member with this key, by the marks of the records below n?
+fn member_marked(
+    obligation: &[u8],
+    second: &[u8],
+    m: usize,
+    memory: &[usize],
+    c: usize,
+    n: usize,
+    key: usize,
+) -> bool
+    requires { ⌜ (length (now memory) ≡ 5120) × (n ≤ 4096) × Normal (word (now obligation) (now second) m) n key × Marked (word (now obligation) (now second) m) c (now memory) n ⌝ }
+    ensures { λ r. ⌜ r ≡ occurs c (decoded (word (now (obligation .entry)) (now (second .entry)) m) key) ⌝ }
+{
+    if is_marked(obligation, second, m, memory, c, n, key / 4 / 4096) {
+        return true;
+    }
+    is_marked(obligation, second, m, memory, c, n, key / 4 % 4096)
+}
+
+// Is constant c in no member, by the marks of the numbered records?
+fn none_marked(
+    obligation: &[u8],
+    second: &[u8],
+    m: usize,
+    numbers: &[usize],
+    memory: &[usize],
+    h: usize,
+    c: usize,
+) -> bool
+    requires { ⌜ Ready (word (now obligation) (now second) m) (now numbers) (now memory) h × Marked (word (now obligation) (now second) m) c (now memory) (length (now numbers)) ⌝ }
+    ensures { λ r. ⌜ r ≡ isFresh (sequent (word (now (obligation .entry)) (now (second .entry)) m) (now (memory .entry)) h) c ⌝ }
+{
+    let n = numbers.len();
+    let mut i = 0;
+    while i < h {
+        if member_marked(obligation, second, m, memory, c, n, memory[i]) {
+            return false;
+        }
+        i += 1;
+    }
+    true
+}
+
+// Is constant c fresh? The memory behind the keys is scratch.
+pub fn is_fresh(
+    obligation: &[u8],
+    second: &[u8],
+    m: usize,
+    numbers: &[usize],
+    memory: &mut [usize],
+    h: usize,
+    c: usize,
+) -> bool
+    requires { ⌜ Ready (word (now obligation) (now second) m) (now numbers) (now memory) h ⌝ }
+    ensures result { λ r. ⌜ r ≡ isFresh (sequent (word (now (obligation .entry)) (now (second .entry)) m) (now (memory .entry)) h) c ⌝ }
+    ensures kept { λ _. ⌜ take 1024 (now (memory .exit)) ≡ take 1024 (now (memory .entry)) ⌝ }
+{
+    mark_all(obligation, second, m, memory, c, numbers.len());
+    none_marked(obligation, second, m, numbers, memory, h, c)
+}
