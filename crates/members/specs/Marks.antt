@@ -5,7 +5,7 @@ use mathlib.Core.List.{List, [], _∷_}
 use mathlib.Core.Bool.{Bool, true, false, not}
 use lib.Dec.{eqb, ltb}
 use lib.ListN.{length, take, getD, set, drop-of-length-le}
-use lib.Seq.{take-take, take-set-le, getD-set-same, getD-set-other, length-take-le}
+use lib.Seq.{getD-set-same, getD-set-other, length-take-le}
 use native.Mathlib.Omega.{arith}
 use borrow.Author.Tests.{eq-eqb, ne-eqb, eqb-true, eqb-false, ltb-true, ltb-false}
 use Rattle.reader.specs.Words.{Reader}
@@ -18,15 +18,14 @@ use Rattle.proof_rules.specs.Check.{isFresh}
 use Rattle.members.specs.Keys.{by-one, equationOf, rightOf, leftOf, body, decoded, NormalBody, Normal, body-equation, body-single, decoded-negation, decoded-plain}
 use Rattle.members.specs.Makers.{Table}
 use Rattle.members.specs.Sequents.{sequent, Keys, Ready, membersFrom, members-next, in-memory}
-use Rattle.members.specs.Added.{sequent-kept, ready-kept}
 
 -- the mark of a record: 1 where the constant is in it
 unfoldable pub markOf : Bool → ℕ
 markOf b = elim b [ true ↦ 1 | false ↦ 0 ]
 
--- the memory has, behind 1,024 keys, the marks of the records from c on that are below n
-pub record Marked (rd : Reader) (c : ℕ) (memory : List ℕ) (n : ℕ) : Type 0 where
-  pub holds : (j : ℕ) → c ≤ j → j < n → getD memory (1024 + j) 0 ≡ markOf (occurs c (tree rd j))
+-- the table has the marks of the records from c on that are below n
+pub record Marked (rd : Reader) (c : ℕ) (marks : List ℕ) (n : ℕ) : Type 0 where
+  pub holds : (j : ℕ) → c ≤ j → j < n → getD marks j 0 ≡ markOf (occurs c (tree rd j))
 
 -- record j is the constant c
 unfoldable pub constantAt : Reader → ℕ → ℕ → Bool
@@ -84,8 +83,8 @@ module _ (rd : Reader) (c x : ℕ) where
   pub mark-low : x < c → false ≡ occurs c (tree rd x)
   mark-low h = sym (occurs-below rd c x h)
 
-  pub mark-high : (n : ℕ) (memory : List ℕ) → c ≤ x → x < n → Marked rd c memory n → eqb (getD memory (1024 + x) 0) 1 ≡ occurs c (tree rd x)
-  mark-high n memory h p marked = rw (marked .holds x h p) (mark-bit (occurs c (tree rd x)))
+  pub mark-high : (n : ℕ) (marks : List ℕ) → c ≤ x → x < n → Marked rd c marks n → eqb (getD marks x 0) 1 ≡ occurs c (tree rd x)
+  mark-high n marks h p marked = rw (marked .holds x h p) (mark-bit (occurs c (tree rd x)))
 
   pub mark-part : (j w : ℕ) (r : Bool) → x ≡ child rd j w → r ≡ occurs c (tree rd x) → r ≡ partMarked rd c j w
   unfolding partMarked
@@ -132,26 +131,22 @@ mark-record rd c j r p e = rw (occurs-step rd c j (omega arith)) e
 pub ruleset marks = (mark-record, mark-yes, mark-next, mark-last, mark-no)
 
 -- The table with one mark more.
-pub marked-start : (rd : Reader) (c : ℕ) (memory : List ℕ) → Marked rd c memory c
-marked-start rd c memory = record { holds = λ j p q. absurd (omega arith) }
+pub marked-start : (rd : Reader) (c : ℕ) (marks : List ℕ) → Marked rd c marks c
+marked-start rd c marks = record { holds = λ j p q. absurd (omega arith) }
 
-pub marked-more : (rd : Reader) (c j n v : ℕ) (before memory : List ℕ) → length memory ≡ length before → length before ≡ 5120 → n ≤ 4096 → j < n →
-    Marked rd c memory j → v ≡ markOf (occurs c (tree rd j)) → Marked rd c (set memory (1024 + j) v) (j + 1)
-marked-more rd c j n v before memory l long small within marked e = record { holds = λ i q r. go i q r (ltb i j) refl }
+pub marked-more : (rd : Reader) (c j n v : ℕ) (before marks : List ℕ) → length marks ≡ length before → n ≤ length before → j < n →
+    Marked rd c marks j → v ≡ markOf (occurs c (tree rd j)) → Marked rd c (set marks j v) (j + 1)
+marked-more rd c j n v before marks l room within marked e = record { holds = λ i q r. go i q r (ltb i j) refl }
   where
-    p : 1024 + j < length memory
+    p : j < length marks
     p = omega arith
 
-    go : (i : ℕ) → c ≤ i → i < j + 1 → (b : Bool) → ltb i j ≡ b → getD (set memory (1024 + j) v) (1024 + i) 0 ≡ markOf (occurs c (tree rd i))
-    go i q r true t = let less : i < j = ltb-true i j t in getD-set-other memory (1024 + j) (1024 + i) v 0 (omega arith) ∙ marked .holds i q less
-    go i q r false t = let one : i ≡ j = omega (arith, ltb-false i j t) in rw one (getD-set-same memory (1024 + j) v 0 p ∙ e)
+    go : (i : ℕ) → c ≤ i → i < j + 1 → (b : Bool) → ltb i j ≡ b → getD (set marks j v) i 0 ≡ markOf (occurs c (tree rd i))
+    go i q r true t = let less : i < j = ltb-true i j t in getD-set-other marks j i v 0 (omega arith) ∙ marked .holds i q less
+    go i q r false t = let one : i ≡ j = omega (arith, ltb-false i j t) in rw one (getD-set-same marks j v 0 p ∙ e)
 
-pub marked-end : (rd : Reader) (c j n : ℕ) (memory : List ℕ) → n ≤ j → Marked rd c memory j → Marked rd c memory n
-marked-end rd c j n memory h marked = record { holds = λ i p q. marked .holds i p (omega arith) }
-
--- the keys stay
-pub keys-kept : (j v : ℕ) (before memory : List ℕ) → take 1024 memory ≡ take 1024 before → take 1024 (set memory (1024 + j) v) ≡ take 1024 before
-keys-kept j v before memory e = take-set-le 1024 memory (1024 + j) v (omega arith) ∙ e
+pub marked-end : (rd : Reader) (c j n : ℕ) (marks : List ℕ) → n ≤ j → Marked rd c marks j → Marked rd c marks n
+marked-end rd c j n marks h marked = record { holds = λ i p q. marked .holds i p (omega arith) }
 
 -- A member by its key: the records that it is made of.
 occurs-not : (c : ℕ) (t : Tree) → occurs c (¬ᵗ t) ≡ occurs c t
@@ -230,16 +225,3 @@ module _ (rd : Reader) (numbers memory : List ℕ) (h c : ℕ) (ready : Ready rd
     pub fresh-end : h ≤ i → true ≡ isFresh (sequent rd memory h) c
     unfolding isFresh every membersFrom
     fresh-end end = rw (inv, drop-of-length-le (take h memory) {i = i} (omega (arith, length-take-le h memory (in-memory rd numbers memory h ready))))
-
--- The ways out of `is_fresh`: marks are made behind the keys.
-module _ (rd : Reader) (numbers before after : List ℕ) (h c : ℕ) (ready : Ready rd numbers before h) (long : length after ≡ length before)
-    (kept : take 1024 after ≡ take 1024 before) where
-  members-kept : take h after ≡ take h before
-  members-kept =
-      sym (take-take h 1024 after (ready .low)) ∙ ap (λ (l : List ℕ). take h l) kept ∙ take-take h 1024 before (ready .low)
-
-  pub ready-marked : Ready rd numbers after h
-  ready-marked = ready-kept rd numbers before after h long members-kept ready
-
-  pub fresh-before : (r : Bool) → r ≡ isFresh (sequent rd after h) c → r ≡ isFresh (sequent rd before h) c
-  fresh-before r e = rw (← sequent-kept rd before after h members-kept) e

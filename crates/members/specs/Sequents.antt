@@ -1,4 +1,4 @@
--- The sequent that the first h numbers of a lent memory stand for, and the ways out of the code that looks for a member.
+-- The sequent that the first h numbers of a lent memory of keys stand for, and the ways out of the code that looks for a member.
 use Prim.Native.Nat.{ℕ, zero, suc, _+_, _<_, _≤_}
 use mathlib.Core.Path.{_≡_, refl, sym, ap, _∙_}
 use mathlib.Core.List.{List, [], _∷_, _++_, map, map-append}
@@ -22,10 +22,10 @@ sequent rd memory h = map (decoded rd) (take h memory)
 pub record Keys (rd : Reader) (size : ℕ) (memory : List ℕ) (h : ℕ) : Type 0 where
   pub each : (i : ℕ) → i < h → Normal rd size (getD memory i 0)
 
--- A memory with h members: 1,024 places for keys, and 4,096 places for marks behind them.
+-- A memory of 1,024 keys, h of them in use.
 pub record Ready (rd : Reader) (numbers memory : List ℕ) (h : ℕ) : Type 0 where
   pub table : Table rd numbers
-  pub long : length memory ≡ 5120
+  pub long : length memory ≡ 1024
   pub low : h ≤ 1024
   pub keys : Keys rd (length numbers) memory h
 

@@ -3,7 +3,7 @@ use reader::trees;
 use reader::words;
 ghost use mathlib.Core.Path.{_≡_};
 ghost use Prim.Native.Nat.{_+_, _<_, _≤_};
-ghost use lib.ListN.{length, take};
+ghost use lib.ListN.{length};
 ghost use Rattle.reader.specs.Words.{word};
 ghost use Rattle.reader.specs.Trees.{tree};
 ghost use Rattle.reader.specs.Variables.{occurs};
@@ -17,18 +17,18 @@ fn is_marked(
     obligation: &[u8],
     second: &[u8],
     m: usize,
-    memory: &[usize],
+    marks: &[usize],
     c: usize,
     n: usize,
     x: usize,
 ) -> bool
-    requires { ⌜ (length (now memory) ≡ 5120) × (n ≤ 4096) × (x < n) × Marked (word (now obligation) (now second) m) c (now memory) n ⌝ }
+    requires { ⌜ (n ≤ length (now marks)) × (x < n) × Marked (word (now obligation) (now second) m) c (now marks) n ⌝ }
     ensures { λ r. ⌜ r ≡ occurs c (tree (word (now (obligation .entry)) (now (second .entry)) m) x) ⌝ }
 {
     if x < c {
         return false;
     }
-    memory[1024 + x] == 1
+    marks[x] == 1
 }
 
 // Is constant c in what word w of record j refers to?
@@ -36,16 +36,16 @@ fn part_marked(
     obligation: &[u8],
     second: &[u8],
     m: usize,
-    memory: &[usize],
+    marks: &[usize],
     c: usize,
     j: usize,
     w: u8,
 ) -> bool
-    requires { ⌜ (length (now memory) ≡ 5120) × (0 < j) × (j ≤ 4096) × Marked (word (now obligation) (now second) m) c (now memory) j ⌝ }
+    requires { ⌜ (0 < j) × (j ≤ length (now marks)) × Marked (word (now obligation) (now second) m) c (now marks) j ⌝ }
     ensures { λ r. ⌜ r ≡ partMarked (word (now (obligation .entry)) (now (second .entry)) m) c j w ⌝ }
 {
     let x = trees::child_at(obligation, second, m, j, w);
-    is_marked(obligation, second, m, memory, c, j, x)
+    is_marked(obligation, second, m, marks, c, j, x)
 }
 
 // Is record j the constant c?
@@ -59,15 +59,8 @@ fn is_constant(obligation: &[u8], second: &[u8], m: usize, c: usize, j: usize) -
 }
 
 // The mark of record j, 1 where constant c is in it, from the marks of the smaller records.
-fn mark_of(
-    obligation: &[u8],
-    second: &[u8],
-    m: usize,
-    memory: &[usize],
-    c: usize,
-    j: usize,
-) -> usize
-    requires { ⌜ (length (now memory) ≡ 5120) × (j ≤ 4096) × Marked (word (now obligation) (now second) m) c (now memory) j ⌝ }
+fn mark_of(obligation: &[u8], second: &[u8], m: usize, marks: &[usize], c: usize, j: usize) -> usize
+    requires { ⌜ (j ≤ length (now marks)) × Marked (word (now obligation) (now second) m) c (now marks) j ⌝ }
     ensures { λ r. ⌜ r ≡ markOf (occurs c (tree (word (now (obligation .entry)) (now (second .entry)) m) j)) ⌝ }
 {
     if j == 0 {
@@ -76,26 +69,26 @@ fn mark_of(
     if is_constant(obligation, second, m, c, j) {
         return 1;
     }
-    if part_marked(obligation, second, m, memory, c, j, 1) {
+    if part_marked(obligation, second, m, marks, c, j, 1) {
         return 1;
     }
-    if part_marked(obligation, second, m, memory, c, j, 2) {
+    if part_marked(obligation, second, m, marks, c, j, 2) {
         return 1;
     }
-    if part_marked(obligation, second, m, memory, c, j, 3) {
+    if part_marked(obligation, second, m, marks, c, j, 3) {
         return 1;
     }
     0
 }
 
 // Marks the records from c on, below n.
-fn mark_all(obligation: &[u8], second: &[u8], m: usize, memory: &mut [usize], c: usize, n: usize)
-    requires { ⌜ (length (now memory) ≡ 5120) × (n ≤ 4096) ⌝ }
-    ensures { λ _. ⌜ Marked (word (now (obligation .entry)) (now (second .entry)) m) c (now (memory .exit)) n × (take 1024 (now (memory .exit)) ≡ take 1024 (now (memory .entry))) ⌝ }
+fn mark_all(obligation: &[u8], second: &[u8], m: usize, marks: &mut [usize], c: usize, n: usize)
+    requires { ⌜ n ≤ length (now marks) ⌝ }
+    ensures { λ _. ⌜ Marked (word (now (obligation .entry)) (now (second .entry)) m) c (now (marks .exit)) n ⌝ }
 {
     let mut j = c;
     while j < n {
-        memory[1024 + j] = mark_of(obligation, second, m, memory, c, j);
+        marks[j] = mark_of(obligation, second, m, marks, c, j);
         j += 1;
     }
 }
@@ -105,18 +98,18 @@ fn member_marked(
     obligation: &[u8],
     second: &[u8],
     m: usize,
-    memory: &[usize],
+    marks: &[usize],
     c: usize,
     n: usize,
     key: usize,
 ) -> bool
-    requires { ⌜ (length (now memory) ≡ 5120) × (n ≤ 4096) × Normal (word (now obligation) (now second) m) n key × Marked (word (now obligation) (now second) m) c (now memory) n ⌝ }
+    requires { ⌜ (n ≤ length (now marks)) × Normal (word (now obligation) (now second) m) n key × Marked (word (now obligation) (now second) m) c (now marks) n ⌝ }
     ensures { λ r. ⌜ r ≡ occurs c (decoded (word (now (obligation .entry)) (now (second .entry)) m) key) ⌝ }
 {
-    if is_marked(obligation, second, m, memory, c, n, key / 4 / 4096) {
+    if is_marked(obligation, second, m, marks, c, n, key / 4 / 4096) {
         return true;
     }
-    is_marked(obligation, second, m, memory, c, n, key / 4 % 4096)
+    is_marked(obligation, second, m, marks, c, n, key / 4 % 4096)
 }
 
 // Is constant c in no member, by the marks of the numbered records?
@@ -126,16 +119,17 @@ fn none_marked(
     m: usize,
     numbers: &[usize],
     memory: &[usize],
+    marks: &[usize],
     h: usize,
     c: usize,
 ) -> bool
-    requires { ⌜ Ready (word (now obligation) (now second) m) (now numbers) (now memory) h × Marked (word (now obligation) (now second) m) c (now memory) (length (now numbers)) ⌝ }
+    requires { ⌜ Ready (word (now obligation) (now second) m) (now numbers) (now memory) h × (length (now numbers) ≤ length (now marks)) × Marked (word (now obligation) (now second) m) c (now marks) (length (now numbers)) ⌝ }
     ensures { λ r. ⌜ r ≡ isFresh (sequent (word (now (obligation .entry)) (now (second .entry)) m) (now (memory .entry)) h) c ⌝ }
 {
     let n = numbers.len();
     let mut i = 0;
     while i < h {
-        if member_marked(obligation, second, m, memory, c, n, memory[i]) {
+        if member_marked(obligation, second, m, marks, c, n, memory[i]) {
             return false;
         }
         i += 1;
@@ -143,20 +137,20 @@ fn none_marked(
     true
 }
 
-// Is constant c fresh? The memory behind the keys is scratch.
+// Is constant c fresh? The marks are scratch.
 pub fn is_fresh(
     obligation: &[u8],
     second: &[u8],
     m: usize,
     numbers: &[usize],
-    memory: &mut [usize],
+    memory: &[usize],
+    marks: &mut [usize],
     h: usize,
     c: usize,
 ) -> bool
-    requires { ⌜ Ready (word (now obligation) (now second) m) (now numbers) (now memory) h ⌝ }
-    ensures result { λ r. ⌜ r ≡ isFresh (sequent (word (now (obligation .entry)) (now (second .entry)) m) (now (memory .entry)) h) c ⌝ }
-    ensures kept { λ _. ⌜ take 1024 (now (memory .exit)) ≡ take 1024 (now (memory .entry)) ⌝ }
+    requires { ⌜ Ready (word (now obligation) (now second) m) (now numbers) (now memory) h × (length (now numbers) ≤ length (now marks)) ⌝ }
+    ensures { λ r. ⌜ r ≡ isFresh (sequent (word (now (obligation .entry)) (now (second .entry)) m) (now (memory .entry)) h) c ⌝ }
 {
-    mark_all(obligation, second, m, memory, c, numbers.len());
-    none_marked(obligation, second, m, numbers, memory, h, c)
+    mark_all(obligation, second, m, marks, c, numbers.len());
+    none_marked(obligation, second, m, numbers, memory, marks, h, c)
 }

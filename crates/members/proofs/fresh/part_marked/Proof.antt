@@ -8,6 +8,6 @@ part-marked-spec = tie.close (tie.spec
     -- child-at-requires: 3 args
     (λ c κs. search needs)
     -- is-marked-requires: child-at; 4 args
-    (λ c κs. (search needs, search needs, search part-low, search needs))
+    (λ c κs. (search needs, search part-low, search needs))
     -- returns: is-marked; 1 child-at; 5 args
     (λ c. search mark-part))
