@@ -1,0 +1,4 @@
+pub mod Paths
+pub mod Forms
+pub mod Tables
+pub mod Grown
