@@ -1,0 +1,119 @@
+// The key of a record, from the table of the smaller records' numbers; where the search for a key starts and how it goes on.
+use crate::Key;
+use reader::kinds;
+use reader::trees;
+use reader::words;
+ghost use mathlib.Core.Path.{_≡_};
+ghost use Prim.Native.Nat.{_<_, _≤_};
+ghost use lib.ListN.{length, getD};
+ghost use Rattle.reader.specs.Words.{word};
+ghost use Rattle.reader.specs.Trees.{child, atom};
+ghost use Rattle.equality.specs.Least.{least, Numbered};
+ghost use Rattle.equality.specs.Keys.{keyAt, bucketOf, sideOf, turned, sameKey};
+
+// Entry k of a table.
+pub fn entry(table: &[usize], k: usize) -> usize
+    requires { ⌜ k < length (now table) ⌝ }
+    ensures { λ r. ⌜ r ≡ getD (now (table .entry)) k 0 ⌝ }
+{
+    table[k]
+}
+
+// What tells record i, whose kind is k, from others of its kind.
+fn atom_of(obligation: &[u8], second: &[u8], m: usize, i: usize, k: usize) -> usize
+    requires { ⌜ k ≡ word (now obligation) (now second) m i 0 ⌝ }
+    ensures { λ r. ⌜ r ≡ atom (word (now (obligation .entry)) (now (second .entry)) m) i ⌝ }
+{
+    if kinds::is_symbol(k) {
+        return i;
+    }
+    if kinds::is_number(kinds::role_of(k, 1)) {
+        return words::word_at(obligation, second, m, i, 1);
+    }
+    0
+}
+
+// The number of what word w of record i, whose kind is k, refers to.
+fn part_of(
+    obligation: &[u8],
+    second: &[u8],
+    m: usize,
+    table: &[usize],
+    i: usize,
+    k: usize,
+    w: u8,
+) -> usize
+    requires { ⌜ (k ≡ word (now obligation) (now second) m i 0) × (0 < i) × (i ≤ length (now table)) × Numbered (word (now obligation) (now second) m) (now table) i ⌝ }
+    ensures { λ r. ⌜ r ≡ least (word (now (obligation .entry)) (now (second .entry)) m) (child (word (now (obligation .entry)) (now (second .entry)) m) i w) ⌝ }
+{
+    if kinds::role_of(k, w) < 10 {
+        return 0;
+    }
+    entry(table, trees::lower_at(obligation, second, m, i, w))
+}
+
+// The key of record i.
+pub fn key_at(obligation: &[u8], second: &[u8], m: usize, table: &[usize], i: usize) -> Key
+    requires { ⌜ (0 < i) × (i ≤ length (now table)) × Numbered (word (now obligation) (now second) m) (now table) i ⌝ }
+    ensures { λ r. ⌜ r ≡ keyAt (word (now (obligation .entry)) (now (second .entry)) m) i ⌝ }
+{
+    let kind = words::word_at(obligation, second, m, i, 0);
+    Key {
+        kind,
+        atom: atom_of(obligation, second, m, i, kind),
+        first: part_of(obligation, second, m, table, i, kind, 1),
+        second: part_of(obligation, second, m, table, i, kind, 2),
+        third: part_of(obligation, second, m, table, i, kind, 3),
+    }
+}
+
+// Are two keys equal?
+pub fn same_key(k: Key, l: Key) -> bool
+    ensures { λ r. ⌜ r ≡ sameKey k l ⌝ }
+{
+    if k.kind != l.kind {
+        return false;
+    }
+    if k.atom != l.atom {
+        return false;
+    }
+    if k.first != l.first {
+        return false;
+    }
+    if k.second != l.second {
+        return false;
+    }
+    k.third == l.third
+}
+
+// The slot at which the search for a key starts.
+pub fn bucket_of(k: Key) -> usize
+    ensures { λ r. ⌜ r ≡ bucketOf k ⌝ }
+{
+    (k.kind % 4096 * 1031
+        + k.atom % 4096 * 2777
+        + k.first % 4096 * 797
+        + k.second % 4096 * 3061
+        + k.third % 4096 * 397)
+        % 4096
+}
+
+// The side on which the search for a key goes on.
+pub fn side_of(k: Key) -> usize
+    ensures { λ r. ⌜ r ≡ sideOf k ⌝ }
+{
+    k.kind % 2
+}
+
+// The key with which it goes on.
+pub fn turned(k: Key) -> Key
+    ensures { λ r. ⌜ r ≡ turned k ⌝ }
+{
+    Key {
+        kind: k.atom,
+        atom: k.first,
+        first: k.second,
+        second: k.third,
+        third: k.kind / 2,
+    }
+}

@@ -1,0 +1,13 @@
+// Equality of trees in constant time: records are numbered so that equal trees share a number.
+pub mod keys;
+pub mod numbers;
+pub mod slots;
+
+// What tells a record's tree from others: its kind, its atom, and the numbers of its children.
+pub struct Key {
+    pub kind: usize,
+    pub atom: usize,
+    pub first: usize,
+    pub second: usize,
+    pub third: usize,
+}

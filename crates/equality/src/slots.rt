@@ -1,0 +1,78 @@
+// A search tree of records for each bucket of keys, in one lent table of slots. However many keys share a bucket, a search takes no more turns than
+// the parts of a key have bits: each turn goes left or right by another bit.
+use crate::Key;
+use crate::keys;
+ghost use mathlib.Core.Path.{_≡_};
+ghost use Prim.Native.Nat.{_+_, _*_, _<_, _≤_};
+ghost use lib.ListN.{length};
+ghost use Rattle.reader.specs.Words.{word};
+ghost use Rattle.equality.specs.Least.{least, Numbered};
+ghost use Rattle.equality.specs.Slots.{under, Placed, Ended, Free};
+
+// The slot under record j on the side that a key says.
+fn slot_under(j: usize, k: Key) -> usize
+    requires { ⌜ 4097 + 2 * j < 18446744073709551616 ⌝ }
+    ensures { λ r. ⌜ r ≡ under j k ⌝ }
+{
+    4096 + 2 * j + keys::side_of(k)
+}
+
+// The slot at which the search for a key among the records below i ends: one that has a record with that key, or a free one.
+fn slot_of(
+    obligation: &[u8],
+    second: &[u8],
+    m: usize,
+    table: &[usize],
+    slots: &[usize],
+    key: Key,
+    i: usize,
+) -> usize
+    requires { ⌜ (i ≤ length (now table)) × (4096 + 2 * i ≤ length (now slots)) × Numbered (word (now obligation) (now second) m) (now table) i × Placed (word (now obligation) (now second) m) (now slots) i ⌝ }
+    ensures { λ r. ⌜ Ended (word (now (obligation .entry)) (now (second .entry)) m) (now (slots .entry)) key i r ⌝ }
+{
+    let mut slot = keys::bucket_of(key);
+    let mut rest = key;
+    let mut j = keys::entry(slots, slot);
+    while j != 0 {
+        if keys::same_key(keys::key_at(obligation, second, m, table, j), key) {
+            return slot;
+        }
+        slot = slot_under(j, rest);
+        rest = keys::turned(rest);
+        j = keys::entry(slots, slot);
+    }
+    slot
+}
+
+// The number of record i; where no smaller record has its tree, i is put in.
+pub fn place(
+    obligation: &[u8],
+    second: &[u8],
+    m: usize,
+    table: &[usize],
+    slots: &mut [usize],
+    i: usize,
+) -> usize
+    requires { ⌜ (0 < i) × (i ≤ length (now table)) × (4096 + 2 * i ≤ length (now slots)) × Numbered (word (now obligation) (now second) m) (now table) i × Placed (word (now obligation) (now second) m) (now slots) i ⌝ }
+    ensures { λ r. ⌜ (r ≡ least (word (now (obligation .entry)) (now (second .entry)) m) i) × Placed (word (now (obligation .entry)) (now (second .entry)) m) (now (slots .exit)) (i + 1) ⌝ }
+{
+    let key = keys::key_at(obligation, second, m, table, i);
+    let slot = slot_of(obligation, second, m, table, slots, key, i);
+    let j = keys::entry(slots, slot);
+    if j != 0 {
+        return keys::entry(table, j);
+    }
+    slots[slot] = i;
+    i
+}
+
+// Frees every slot.
+pub fn free_all(slots: &mut [usize])
+    ensures { λ _. ⌜ Free (now (slots .exit)) ⌝ }
+{
+    let mut s: usize = 0;
+    while s < slots.len() {
+        slots[s] = 0;
+        s += 1;
+    }
+}
