@@ -40,3 +40,13 @@ entry-past table k h = sym (List·getD-eq-default table 0 h)
 
 pub store-past : (table : List ℕ) (k v : ℕ) → length table ≤ k → table ≡ set table k v
 store-past table k v h = sym (set-out table k v h)
+
+-- what every entry that is not 0 says holds after a store of what says it
+pub stored : (P : ℕ → ℕ → Type 0) (table : List ℕ) (k v : ℕ) → ((q : ℕ) → 0 < getD table q 0 → P q (getD table q 0)) → P k v →
+    (q : ℕ) → 0 < getD (set table k v) q 0 → P q (getD (set table k v) q 0)
+stored P table k v before new q = go (eqb q k) refl (ltb k (length table)) refl
+  where
+    go : (b : Bool) → eqb q k ≡ b → (t : Bool) → ltb k (length table) ≡ t → 0 < getD (set table k v) q 0 → P q (getD (set table k v) q 0)
+    go true e true h = let one : q ≡ k = eqb-true q k e in rw (one, getD-set-same table k v 0 (ltb-true k (length table) h)) (λ p. new)
+    go true e false h = rw (set-out table k v (ltb-false k (length table) h)) (before q)
+    go false e t h = rw (getD-set-other table k q v 0 (eqb-false q k e)) (before q)
