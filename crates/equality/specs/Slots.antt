@@ -4,11 +4,12 @@ use mathlib.Core.Path.{_≡_, refl, sym, _∙_}
 use mathlib.Core.List.{List}
 use mathlib.Core.Bool.{Bool, true, false}
 use lib.Dec.{eqb, ltb}
-use lib.ListN.{length, getD, set, List·getD-eq-default}
+use lib.ListN.{length, getD, set}
 use lib.Seq.{getD-set-same, getD-set-other}
 use native.Mathlib.Omega.{arith}
 use borrow.Author.Tests.{eqb-true, eqb-false, ltb-true, ltb-false}
 use Rattle.equality.specs.declared.Key.{Key}
+use Rattle.equality.specs.Tables.{Zeros}
 use Rattle.equality.specs.Least.{least, least-most, least-equal, least-tree, least-least, least-positive, Numbered, numbered-end}
 use Rattle.equality.specs.Keys.{keyAt, key-tree, tree-key, bucketOf, sideOf, side-small, turned}
 use Rattle.reader.specs.Words.{Reader}
@@ -35,32 +36,7 @@ pub record Placed (rd : Reader) (slots : List ℕ) (i : ℕ) : Type 0 where
   pub rising : (s : ℕ) → 0 < getD slots s 0 → s < 4096 + 2 * getD slots s 0
   pub stands : (x : ℕ) → 0 < x → x < i → least rd x ≡ x → Stands slots x (keyAt rd x)
 
--- a table of zeros
-pub record Free (slots : List ℕ) : Type 0 where
-  pub zeros : (s : ℕ) → getD slots s 0 ≡ 0
-
--- the slots below s are free
-pub record Freed (slots : List ℕ) (s : ℕ) : Type 0 where
-  pub zero-below : (q : ℕ) → q < s → getD slots q 0 ≡ 0
-
-pub freed-none : (slots : List ℕ) → Freed slots 0
-freed-none slots = record { zero-below = λ q h. absurd (omega arith) }
-
-pub freed-more : (slots : List ℕ) (s : ℕ) → s < length slots → Freed slots s → Freed (set slots s 0) (s + 1)
-freed-more slots s p f = record { zero-below = λ q h. go q h (eqb q s) refl }
-  where
-    go : (q : ℕ) → q < s + 1 → (b : Bool) → eqb q s ≡ b → getD (set slots s 0) q 0 ≡ 0
-    go q h true t = let one : q ≡ s = eqb-true q s t in rw one (getD-set-same slots s 0 0 p)
-    go q h false t = let n = eqb-false q s t in getD-set-other slots s q 0 0 n ∙ f .zero-below q (omega arith)
-
-pub freed-all : (slots : List ℕ) (s : ℕ) → length slots ≤ s → Freed slots s → Free slots
-freed-all slots s h f = record { zeros = λ q. go q (ltb q s) refl }
-  where
-    go : (q : ℕ) → (b : Bool) → ltb q s ≡ b → getD slots q 0 ≡ 0
-    go q true t = f .zero-below q (ltb-true q s t)
-    go q false t = List·getD-eq-default slots 0 (omega (arith, ltb-false q s t))
-
-pub placed-none : (rd : Reader) (slots : List ℕ) → Free slots → Placed rd slots 1
+pub placed-none : (rd : Reader) (slots : List ℕ) → Zeros slots → Placed rd slots 1
 placed-none rd slots f = record {
   small = λ s. omega (arith, f .zeros s);
   rising = λ s h. absurd (omega (arith, f .zeros s));

@@ -1,23 +1,16 @@
 // The key of a record, from the table of the smaller records' numbers; where the search for a key starts and how it goes on.
 use crate::Key;
+use crate::tables;
 use reader::kinds;
 use reader::trees;
 use reader::words;
 ghost use mathlib.Core.Path.{_≡_};
 ghost use Prim.Native.Nat.{_<_, _≤_};
-ghost use lib.ListN.{length, getD};
+ghost use lib.ListN.{length};
 ghost use Rattle.reader.specs.Words.{word};
 ghost use Rattle.reader.specs.Trees.{child, atom};
 ghost use Rattle.equality.specs.Least.{least, Numbered};
 ghost use Rattle.equality.specs.Keys.{keyAt, bucketOf, sideOf, turned, sameKey};
-
-// Entry k of a table.
-pub fn entry(table: &[usize], k: usize) -> usize
-    requires { ⌜ k < length (now table) ⌝ }
-    ensures { λ r. ⌜ r ≡ getD (now (table .entry)) k 0 ⌝ }
-{
-    table[k]
-}
 
 // What tells record i, whose kind is k, from others of its kind.
 fn atom_of(obligation: &[u8], second: &[u8], m: usize, i: usize, k: usize) -> usize
@@ -49,7 +42,7 @@ fn part_of(
     if kinds::role_of(k, w) < 10 {
         return 0;
     }
-    entry(table, trees::lower_at(obligation, second, m, i, w))
+    tables::entry(table, trees::lower_at(obligation, second, m, i, w))
 }
 
 // The key of record i.

@@ -2,6 +2,7 @@
 pub mod keys;
 pub mod numbers;
 pub mod slots;
+pub mod tables;
 
 // What tells a record's tree from others: its kind, its atom, and the numbers of its children.
 pub struct Key {

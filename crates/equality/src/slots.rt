@@ -2,12 +2,13 @@
 // the parts of a key have bits: each turn goes left or right by another bit.
 use crate::Key;
 use crate::keys;
+use crate::tables;
 ghost use mathlib.Core.Path.{_≡_};
 ghost use Prim.Native.Nat.{_+_, _*_, _<_, _≤_};
 ghost use lib.ListN.{length};
 ghost use Rattle.reader.specs.Words.{word};
 ghost use Rattle.equality.specs.Least.{least, Numbered};
-ghost use Rattle.equality.specs.Slots.{under, Placed, Ended, Free};
+ghost use Rattle.equality.specs.Slots.{under, Placed, Ended};
 
 // The slot under record j on the side that a key says.
 fn slot_under(j: usize, k: Key) -> usize
@@ -32,14 +33,14 @@ fn slot_of(
 {
     let mut slot = keys::bucket_of(key);
     let mut rest = key;
-    let mut j = keys::entry(slots, slot);
+    let mut j = tables::entry(slots, slot);
     while j != 0 {
         if keys::same_key(keys::key_at(obligation, second, m, table, j), key) {
             return slot;
         }
         slot = slot_under(j, rest);
         rest = keys::turned(rest);
-        j = keys::entry(slots, slot);
+        j = tables::entry(slots, slot);
     }
     slot
 }
@@ -58,21 +59,10 @@ pub fn place(
 {
     let key = keys::key_at(obligation, second, m, table, i);
     let slot = slot_of(obligation, second, m, table, slots, key, i);
-    let j = keys::entry(slots, slot);
+    let j = tables::entry(slots, slot);
     if j != 0 {
-        return keys::entry(table, j);
+        return tables::entry(table, j);
     }
     slots[slot] = i;
     i
-}
-
-// Frees every slot.
-pub fn free_all(slots: &mut [usize])
-    ensures { λ _. ⌜ Free (now (slots .exit)) ⌝ }
-{
-    let mut s: usize = 0;
-    while s < slots.len() {
-        slots[s] = 0;
-        s += 1;
-    }
 }

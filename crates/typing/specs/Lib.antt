@@ -1,8 +1,10 @@
+pub mod Outcomes
 pub mod Shapes
 pub mod Parts
 pub mod Variables
 pub mod SetsAndPairs
 pub mod Types
+pub mod Signatures
 pub mod Chains
 pub mod Instances
 pub mod Applications

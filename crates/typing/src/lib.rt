@@ -5,5 +5,6 @@ pub mod instances;
 pub mod parts;
 pub mod records;
 pub mod shapes;
+pub mod signatures;
 pub mod types;
 pub mod variables;

@@ -4,7 +4,9 @@ use crate::variables;
 use reader::trees;
 use reader::words;
 ghost use mathlib.Core.Path.{_≡_};
+ghost use lib.ListN.{length};
 ghost use Rattle.reader.specs.Words.{word};
+ghost use Rattle.equality.specs.Least.{Numbered};
 ghost use Rattle.reader.specs.Trees.{tree};
 ghost use Rattle.reader.specs.Typing.{constantTyped, pairTyped, productTyped, powersetTyped, forAllTyped, equalTyped, memberTyped};
 ghost use Rattle.typing.specs.Types.{typeAt, partType};
@@ -53,17 +55,25 @@ pub fn constant_typed(obligation: &[u8], second: &[u8], m: usize, i: usize) -> b
 }
 
 // "a pair of a τ and a υ is Pair(τ,υ)"
-pub fn pair_typed(obligation: &[u8], second: &[u8], m: usize, i: usize) -> bool
+pub fn pair_typed(obligation: &[u8], second: &[u8], m: usize, numbers: &[usize], i: usize) -> bool
+    requires { ⌜ Numbered (word (now obligation) (now second) m) (now numbers) (length (now numbers)) ⌝ }
     ensures { λ r. ⌜ r ≡ pairTyped (tree (word (now (obligation .entry)) (now (second .entry)) m) i) ⌝ }
 {
     let x = part_type(obligation, second, m, i, 1);
     let y = part_type(obligation, second, m, i, 2);
     let own = trees::child_at(obligation, second, m, i, 3);
-    shapes::is_pair_of(obligation, second, m, own, x, y)
+    shapes::is_pair_of(obligation, second, m, numbers, own, x, y)
 }
 
 // "a product of Set(τ), Set(υ) is Set(Pair(τ,υ))"
-pub fn product_typed(obligation: &[u8], second: &[u8], m: usize, i: usize) -> bool
+pub fn product_typed(
+    obligation: &[u8],
+    second: &[u8],
+    m: usize,
+    numbers: &[usize],
+    i: usize,
+) -> bool
+    requires { ⌜ Numbered (word (now obligation) (now second) m) (now numbers) (length (now numbers)) ⌝ }
     ensures { λ r. ⌜ r ≡ productTyped (tree (word (now (obligation .entry)) (now (second .entry)) m) i) ⌝ }
 {
     let x = part_type(obligation, second, m, i, 1);
@@ -77,11 +87,18 @@ pub fn product_typed(obligation: &[u8], second: &[u8], m: usize, i: usize) -> bo
     let own = trees::child_at(obligation, second, m, i, 3);
     let u = trees::child_at(obligation, second, m, x, 1);
     let v = trees::child_at(obligation, second, m, y, 1);
-    shapes::is_set_of_pair(obligation, second, m, own, u, v)
+    shapes::is_set_of_pair(obligation, second, m, numbers, own, u, v)
 }
 
 // "a powerset of Set(τ) is Set(Set(τ))"
-pub fn powerset_typed(obligation: &[u8], second: &[u8], m: usize, i: usize) -> bool
+pub fn powerset_typed(
+    obligation: &[u8],
+    second: &[u8],
+    m: usize,
+    numbers: &[usize],
+    i: usize,
+) -> bool
+    requires { ⌜ Numbered (word (now obligation) (now second) m) (now numbers) (length (now numbers)) ⌝ }
     ensures { λ r. ⌜ r ≡ powersetTyped (tree (word (now (obligation .entry)) (now (second .entry)) m) i) ⌝ }
 {
     let x = part_type(obligation, second, m, i, 1);
@@ -89,32 +106,41 @@ pub fn powerset_typed(obligation: &[u8], second: &[u8], m: usize, i: usize) -> b
         return false;
     }
     let own = trees::child_at(obligation, second, m, i, 2);
-    shapes::is_set_of(obligation, second, m, own, x)
+    shapes::is_set_of(obligation, second, m, numbers, own, x)
 }
 
 // "In ∀, each occurrence bound by it bears its type."
-pub fn for_all_typed(obligation: &[u8], second: &[u8], m: usize, i: usize) -> bool
+pub fn for_all_typed(
+    obligation: &[u8],
+    second: &[u8],
+    m: usize,
+    numbers: &[usize],
+    i: usize,
+) -> bool
+    requires { ⌜ Numbered (word (now obligation) (now second) m) (now numbers) (length (now numbers)) ⌝ }
     ensures { λ r. ⌜ r ≡ forAllTyped (tree (word (now (obligation .entry)) (now (second .entry)) m) i) ⌝ }
 {
     let t = trees::child_at(obligation, second, m, i, 1);
     let body = trees::child_at(obligation, second, m, i, 2);
-    variables::bears(obligation, second, m, body, 0, t)
+    variables::bears(obligation, second, m, numbers, body, 0, t)
 }
 
 // "= needs equal types"
-pub fn equal_typed(obligation: &[u8], second: &[u8], m: usize, i: usize) -> bool
+pub fn equal_typed(obligation: &[u8], second: &[u8], m: usize, numbers: &[usize], i: usize) -> bool
+    requires { ⌜ Numbered (word (now obligation) (now second) m) (now numbers) (length (now numbers)) ⌝ }
     ensures { λ r. ⌜ r ≡ equalTyped (tree (word (now (obligation .entry)) (now (second .entry)) m) i) ⌝ }
 {
     let x = part_type(obligation, second, m, i, 1);
     let y = part_type(obligation, second, m, i, 2);
-    trees::same_at(obligation, second, m, x, y)
+    equality::numbers::same_at(obligation, second, m, numbers, x, y)
 }
 
 // "x ∈ s needs s of type Set(τ) for x of τ"
-pub fn member_typed(obligation: &[u8], second: &[u8], m: usize, i: usize) -> bool
+pub fn member_typed(obligation: &[u8], second: &[u8], m: usize, numbers: &[usize], i: usize) -> bool
+    requires { ⌜ Numbered (word (now obligation) (now second) m) (now numbers) (length (now numbers)) ⌝ }
     ensures { λ r. ⌜ r ≡ memberTyped (tree (word (now (obligation .entry)) (now (second .entry)) m) i) ⌝ }
 {
     let x = part_type(obligation, second, m, i, 1);
     let s = part_type(obligation, second, m, i, 2);
-    shapes::is_set_of(obligation, second, m, s, x)
+    shapes::is_set_of(obligation, second, m, numbers, s, x)
 }

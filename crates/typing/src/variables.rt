@@ -1,10 +1,11 @@
 // Indices, type variables and closedness.
 use crate::parts::part_at;
-use reader::trees;
 use reader::words;
 ghost use mathlib.Core.Path.{_≡_};
+ghost use lib.ListN.{length};
 ghost use Prim.Native.Nat.{_+_, _<_, _≤_};
 ghost use Rattle.reader.specs.Words.{word};
+ghost use Rattle.equality.specs.Least.{Numbered};
 ghost use Rattle.reader.specs.Trees.{tree};
 ghost use Rattle.reader.specs.Variables.{binders, bears, indicesBelow, typesBelow, isClosed};
 ghost use Rattle.typing.specs.Variables.{boundAt, belowParts, typeBelowAt, typesBelowParts, indexAt, bearsAt};
@@ -87,7 +88,14 @@ pub fn indices_below(obligation: &[u8], second: &[u8], m: usize, i: usize, d: us
 }
 
 // Is record i, of kind k, no type variable with a number from p on?
-fn is_type_below(obligation: &[u8], second: &[u8], m: usize, k: usize, i: usize, p: usize) -> bool
+pub fn is_type_below(
+    obligation: &[u8],
+    second: &[u8],
+    m: usize,
+    k: usize,
+    i: usize,
+    p: usize,
+) -> bool
     ensures { λ r. ⌜ r ≡ typeBelowAt (word (now (obligation .entry)) (now (second .entry)) m) k i p ⌝ }
 {
     if k != 6 {
@@ -171,12 +179,13 @@ fn bears_at(
     obligation: &[u8],
     second: &[u8],
     m: usize,
+    numbers: &[usize],
     i: usize,
     d: usize,
     c: usize,
     t: usize,
 ) -> bool
-    requires { ⌜ c + i < 18446744073709551616 ⌝ }
+    requires { ⌜ (c + i < 18446744073709551616) × Numbered (word (now obligation) (now second) m) (now numbers) (length (now numbers)) ⌝ }
     ensures { λ r. ⌜ r ≡ bearsAt (word (now (obligation .entry)) (now (second .entry)) m) i (d + c) t ⌝ }
 {
     if i == 0 {
@@ -185,23 +194,32 @@ fn bears_at(
     let k = words::word_at(obligation, second, m, i, 0);
     if is_index(obligation, second, m, k, i, d, c) {
         let u = part_at(obligation, second, m, k, i, 2);
-        return trees::same_at(obligation, second, m, u, t);
+        return equality::numbers::same_at(obligation, second, m, numbers, u, t);
     }
     let x = part_at(obligation, second, m, k, i, 1);
-    if !bears_at(obligation, second, m, x, d, c, t) {
+    if !bears_at(obligation, second, m, numbers, x, d, c, t) {
         return false;
     }
     let y = part_at(obligation, second, m, k, i, 2);
-    if !bears_at(obligation, second, m, y, d, deeper(k, c), t) {
+    if !bears_at(obligation, second, m, numbers, y, d, deeper(k, c), t) {
         return false;
     }
     let z = part_at(obligation, second, m, k, i, 3);
-    bears_at(obligation, second, m, z, d, c, t)
+    bears_at(obligation, second, m, numbers, z, d, c, t)
 }
 
 // Does every occurrence of index d in record i bear type t?
-pub fn bears(obligation: &[u8], second: &[u8], m: usize, i: usize, d: usize, t: usize) -> bool
+pub fn bears(
+    obligation: &[u8],
+    second: &[u8],
+    m: usize,
+    numbers: &[usize],
+    i: usize,
+    d: usize,
+    t: usize,
+) -> bool
+    requires { ⌜ Numbered (word (now obligation) (now second) m) (now numbers) (length (now numbers)) ⌝ }
     ensures { λ r. ⌜ r ≡ bears d (tree (word (now (obligation .entry)) (now (second .entry)) m) t) (tree (word (now (obligation .entry)) (now (second .entry)) m) i) ⌝ }
 {
-    bears_at(obligation, second, m, i, d, 0, t)
+    bears_at(obligation, second, m, numbers, i, d, 0, t)
 }

@@ -2,7 +2,7 @@ use borrow.Author.Needs.{needs}
 use native.Mathlib.Omega.{arith}
 use mathlib.Core.Path.{sym}
 use Rattle.reader.specs.Words.{wordFrom}
-use Rattle.reader.specs.WordLaws.{word-is, word-none, word-past}
+use Rattle.reader.specs.WordLaws.{word-is, word-none}
 use Rattle.reader.proofs.words.word_of.Statement.{statement}
 use Rattle.reader.proofs.words.word_of.Tie as tie
 
@@ -11,29 +11,31 @@ unfolding wordFrom
 word-of-spec = tie.close (tie.spec
     -- returns: if1; 2 args
     (λ c. let a = c .before .before .args in sym (word-none (a .s .now) (a .i) (a .w) (c .if1 .taken)))
-    -- returns-2: if2; 1 if1; 3 args
-    (λ c. let a = c .before .before .before .args in sym (word-past (a .s .now) (a .i) (a .w) (omega arith)))
+    -- word-past-requires: if2; 1 if1; 3 args
+    (λ c κs. search needs)
+    -- returns-2: word-past; 1 if2; 2 if1; 4 args
+    (λ c. search needs)
     -- mul-at: if2; 1 if1; 3 args
     (λ c. search needs)
     -- mul-at-2: if2; 1 if1; 3 args
     (λ c. search needs)
     -- add-at: if2; 1 if1; 3 args
     (λ c. search needs)
-    -- byte-at-requires: if2; 1 if1; 3 args
-    (λ c κs. search needs)
-    -- add-byte-at: byte-at; 1 if2; 2 if1; 4 args
+    -- shared-slice-read-join: 1 if2; 2 if1; 4 args
     (λ c. search needs)
-    -- byte-at-requires-2: byte-at; 1 if2; 2 if1; 4 args
-    (λ c κs. search needs)
-    -- add-byte-at-2: byte-at2; 1 byte-at; 2 if2; 3 if1; 5 args
+    -- add-join: 1 if2; 2 if1; 4 args
     (λ c. search needs)
-    -- byte-at-requires-3: byte-at2; 1 byte-at; 2 if2; 3 if1; 5 args
-    (λ c κs. search needs)
-    -- add-byte-at-3: byte-at3; 1 byte-at2; 2 byte-at; 3 if2; 4 if1; 6 args
+    -- shared-slice-read-join-2: 2 if2; 3 if1; 5 args
     (λ c. search needs)
-    -- byte-at-requires-4: byte-at3; 1 byte-at2; 2 byte-at; 3 if2; 4 if1; 6 args
+    -- add-join-2: 2 if2; 3 if1; 5 args
+    (λ c. search needs)
+    -- shared-slice-read-join-3: 3 if2; 4 if1; 6 args
+    (λ c. search needs)
+    -- add-join-3: 3 if2; 4 if1; 6 args
+    (λ c. search needs)
+    -- shared-slice-read-join-4: 4 if2; 5 if1; 7 args
+    (λ c. search needs)
+    -- join-requires: 4 if2; 5 if1; 7 args
     (λ c κs. search needs)
-    -- join-requires: byte-at4; 1 byte-at3; 2 byte-at2; 3 byte-at; 4 if2; 5 if1; 7 args
-    (λ c κs. search needs)
-    -- returns-3: join; 1 byte-at4; 2 byte-at3; 3 byte-at2; 4 byte-at; 5 if2; 6 if1; 8 args
+    -- returns-3: join; 5 if2; 6 if1; 8 args
     (λ c. let a = c .before .before .before .before .before .before .before .before .args in rw (word-is (a .s .now) (a .i) (a .w) (c .before .before .before .before .before .before .if1 .left)) (cc)))
