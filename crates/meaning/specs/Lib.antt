@@ -1,2 +1,6 @@
 pub mod Facts
+pub mod FactLaws
 pub mod Proves
+pub mod Forms
+pub mod Rows
+pub mod Accepts
