@@ -4,3 +4,4 @@ pub mod Proves
 pub mod Forms
 pub mod Rows
 pub mod Accepts
+pub mod LL
