@@ -141,11 +141,11 @@ not-so true h = absurd (h refl)
 not-so false h = refl
 
 -- one of two tests
-either-first : (a b : Bool) → a ≡ true → either a b ≡ true
+pub either-first : (a b : Bool) → a ≡ true → either a b ≡ true
 unfolding either
 either-first a b p = simp (either, p)
 
-either-second : (a b : Bool) → b ≡ true → either a b ≡ true
+pub either-second : (a b : Bool) → b ≡ true → either a b ≡ true
 unfolding either
 either-second true b p = refl
 either-second false b p = p

@@ -11,7 +11,7 @@ use Rattle.reader.specs.Words.{Reader}
 use Rattle.reader.specs.Tests.{both, ifEq, ifLt}
 use Rattle.reader.specs.Kinds.{class, isNumber, isSymbol, role}
 use Rattle.reader.specs.At.{roleAt}
-use Rattle.reader.specs.Trees.{Tree, leaf, node, child, atom, tree, kindOf, firstOf, _∧ᵗ_, _⇒ᵗ_, ¬ᵗ_, ∀ᵗ, _=ᵗ_}
+use Rattle.reader.specs.Trees.{Tree, leaf, node, child, atom, tree, kindOf, firstOf, _∧ᵗ_, _⇒ᵗ_, ¬ᵗ_, ∀ᵗ, _=ᵗ_, setᵗ}
 use Rattle.reader.specs.Laws.{tree-zero, tree-step}
 use Rattle.reader.specs.Shapes.{Shape, ofClass, ofKind, negated, type, term, formula, constant, conjunction, implication, universal, equation, forAllTypes, hasShape, haveShapes}
 use Rattle.accepted.specs.Scan.{both-parts, both-join, when-less, when-true, when-false}
@@ -64,7 +64,10 @@ module _ (rd : Reader) (i k : ℕ) (h : kindOf (tree rd i) ≡ k) (given : 0 < k
   made-2 : isSymbol k ≡ false → isNumber (role k 1) ≡ false → role k 3 < 10 → tree rd i ≡ node k 0 (tree rd (child rd i 1)) (tree rd (child rd i 2)) leaf
   made-2 p q r = rw (tree-step rd i kind-given, kind-is, atom-none p q, bare 3 r)
 
--- the forms that rules show
+  made-3 : isSymbol k ≡ false → isNumber (role k 1) ≡ false → tree rd i ≡ node k 0 (tree rd (child rd i 1)) (tree rd (child rd i 2)) (tree rd (child rd i 3))
+  made-3 p q = rw (tree-step rd i kind-given, kind-is, atom-none p q)
+
+-- the forms that rules and typing show
 module _ (rd : Reader) (i : ℕ) where
   pub not-made : kindOf (tree rd i) ≡ 18 → tree rd i ≡ ¬ᵗ (tree rd (child rd i 1))
   unfolding role ifLt isSymbol isNumber ifEq
@@ -87,6 +90,28 @@ module _ (rd : Reader) (i : ℕ) where
   pub equal-made : kindOf (tree rd i) ≡ 20 → tree rd i ≡ (tree rd (child rd i 1) =ᵗ tree rd (child rd i 2))
   unfolding role ifLt isSymbol isNumber ifEq
   equal-made h = made-2 rd i 20 h (omega arith) refl refl (omega arith)
+
+  pub member-made : kindOf (tree rd i) ≡ 21 → tree rd i ≡ node 21 0 (tree rd (child rd i 1)) (tree rd (child rd i 2)) leaf
+  unfolding role ifLt isSymbol isNumber ifEq
+  member-made h = made-2 rd i 21 h (omega arith) refl refl (omega arith)
+
+  pub powerset-made : kindOf (tree rd i) ≡ 12 → tree rd i ≡ node 12 0 (tree rd (child rd i 1)) (tree rd (child rd i 2)) leaf
+  unfolding role ifLt isSymbol isNumber ifEq
+  powerset-made h = made-2 rd i 12 h (omega arith) refl refl (omega arith)
+
+  pub pair-made : kindOf (tree rd i) ≡ 10 → tree rd i ≡ node 10 0 (tree rd (child rd i 1)) (tree rd (child rd i 2)) (tree rd (child rd i 3))
+  unfolding role ifLt isSymbol isNumber ifEq
+  pair-made h = made-3 rd i 10 h (omega arith) refl refl
+
+  pub product-made : kindOf (tree rd i) ≡ 11 → tree rd i ≡ node 11 0 (tree rd (child rd i 1)) (tree rd (child rd i 2)) (tree rd (child rd i 3))
+  unfolding role ifLt isSymbol isNumber ifEq
+  product-made h = made-3 rd i 11 h (omega arith) refl refl
+
+  pub set-made : kindOf (tree rd i) ≡ 4 → tree rd i ≡ setᵗ (tree rd (child rd i 1))
+  unfolding role ifLt isSymbol isNumber ifEq
+  set-made h =
+      made-2 rd i 4 h (omega arith) refl refl (omega arith)
+      ∙ ap (λ (y : Tree). node 4 0 (tree rd (child rd i 1)) y leaf) (bare rd i 4 h (omega arith) 2 (omega arith))
 
   pub constant-made : kindOf (tree rd i) ≡ 7 → tree rd i ≡ constantᵗ i (tree rd (child rd i 1))
   unfolding role ifLt isSymbol isNumber ifEq

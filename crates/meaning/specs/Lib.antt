@@ -5,3 +5,12 @@ pub mod Forms
 pub mod Rows
 pub mod Accepts
 pub mod LL
+pub mod Table
+pub mod Spelling
+pub mod Typed
+pub mod WellFormed
+pub mod TableLaws
+pub mod SpellingLaws
+pub mod TypedLaws
+pub mod RecordLaws
+pub mod FileLaws
