@@ -1,20 +1,20 @@
 -- The walk of the proof check accepts exactly what `Proves` says, with the number of nodes.
 use Prim.Native.Nat.{ℕ, zero, suc, _+_, _<_, _≤_}
 use mathlib.Core.Path.{_≡_, refl, sym, ap, subst, _∙_}
-use mathlib.Core.List.{List, [], _∷_, _++_, map}
-use mathlib.Core.Bool.{Bool, true, false}
+use mathlib.Core.List.{List, [], _∷_, _++_}
+use mathlib.Core.Bool.{true}
 use mathlib.Core.Logic.{_↔_}
 use lib.ListN.{length, getD}
 use native.Mathlib.Omega.{arith}
 use Rattle.reader.specs.declared.Answer.{Answer}
 use Rattle.reader.specs.Words.{Reader}
-use Rattle.reader.specs.Tests.{both, between, every, ifEq, ifLt}
+use Rattle.reader.specs.Tests.{between, every, ifEq, ifLt}
 use Rattle.reader.specs.Kinds.{isRule}
-use Rattle.reader.specs.Trees.{Tree, leaf, node, child, tree, firstOf, secondOf, atomOf, same, ⊥ᵗ, ⊤ᵗ, _∧ᵗ_, _⇒ᵗ_, ¬ᵗ_, ∀ᵗ, _=ᵗ_}
+use Rattle.reader.specs.Trees.{Tree, leaf, tree, firstOf, secondOf, atomOf, same, _∧ᵗ_, _⇒ᵗ_, ¬ᵗ_, ∀ᵗ, _=ᵗ_}
 use Rattle.reader.specs.Chains.{parts, premises}
 use Rattle.reader.specs.Variables.{replaced, isClosed, instance}
 use Rattle.reader.specs.Laws.{same-equal, same-self}
-use Rattle.reader.specs.Shapes.{negated, type, term, formula, constant, conjunction, implication, universal, equation, forAllTypes, haveShapes}
+use Rattle.reader.specs.Shapes.{negated, term, formula, constant, conjunction, implication, universal, equation, forAllTypes, haveShapes}
 use Rattle.reader.specs.Answers.{accepted}
 use Rattle.reader.specs.Walk.{walkNode}
 use Rattle.reader.specs.Meaning.{Each, each-0, each-1, each-2, one-each, two-each, Closed as ClosedUnder, Passes, sound, passes}
@@ -22,10 +22,10 @@ use Rattle.reader.specs.Typing.{typeOf}
 use Rattle.accepted.specs.Scan.{both-parts, both-join}
 use Rattle.proof_check.specs.Rules.{row}
 use Rattle.proof_check.specs.Check.{nodeFault, premiseSequent}
-use Rattle.meaning.specs.Facts.{_∈_, here, there, Every, IsType, IsTerm, IsFormula, IndicesBelow, Closed, Bears, Fresh}
+use Rattle.meaning.specs.Facts.{_∈_, here, there, Every, IsType, IsTerm, IsFormula, Closed, Fresh}
 use Rattle.meaning.specs.FactLaws.{every-0, every-more, every-1, every-2, every-in, every-out, closed-in, closed-out, indices-in, indices-out, bears-in, bears-out}
 use Rattle.meaning.specs.Proves.{constantᵗ, forTypesᵗ, Node, Fits, Proves}
-use Rattle.meaning.specs.Forms.{not-made, and-made, implies-made, for-all-made, equal-made, constant-made, for-types-made, of-class, class-of, of-kind, of-negated, forms-0, forms-1, forms-3, forms-5, forms-45, forms-head, cons-same, forms-types, more-forms, no-forms, one-form, kind-form, negated-form, types-form}
+use Rattle.meaning.specs.Forms.{and-made, implies-made, for-all-made, equal-made, constant-made, of-class, class-of, of-kind, of-negated, forms-0, forms-1, forms-3, forms-5, forms-45, forms-head, cons-same, forms-types, more-forms, no-forms, one-form, kind-form, negated-form, types-form}
 use Rattle.meaning.specs.Rows.{partsOf, Passed, passed-in, passed-out, next-is, by-kind}
 
 -- lists of a known length

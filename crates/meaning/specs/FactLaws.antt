@@ -1,12 +1,10 @@
 -- Each proposition of `Facts` holds exactly where the test of the same name passes.
-use Prim.Native.Nat.{ℕ, zero, suc, _+_, _<_, _≤_}
-use mathlib.Core.Path.{_≡_, refl, sym, ap, _∙_}
+use Prim.Native.Nat.{ℕ, _+_, _<_}
+use mathlib.Core.Path.{_≡_, refl, sym, _∙_}
 use mathlib.Core.List.{List, [], _∷_}
 use mathlib.Core.Bool.{Bool, true, false, not, false≢true}
-use mathlib.Core.Logic.{_↔_}
 use lib.Dec.{eqb, ltb}
-use native.Mathlib.Omega.{arith}
-use borrow.Author.Tests.{eq-eqb, ne-eqb, eqb-true, eqb-false, lt-ltb, ltb-true, not-true, not-false}
+use borrow.Author.Tests.{eq-eqb, eqb-true, lt-ltb, ltb-true, not-true}
 use Rattle.reader.specs.Tests.{both, either, every, ifTrue}
 use Rattle.reader.specs.Trees.{Tree, leaf, node, same}
 use Rattle.reader.specs.Variables.{binders, isIndex, bears, isBound, indicesBelow, isTypeBelow, typesBelow, isClosed, isConstant, occurs}

@@ -1,5 +1,5 @@
 -- What the rules and the files' demands speak of, as propositions: members, closedness, types of places, occurrence, freshness, classes.
-use Prim.Native.Nat.{ℕ, _+_, _<_, _≤_}
+use Prim.Native.Nat.{ℕ, _+_, _<_}
 use mathlib.Core.Path.{_≡_}
 use mathlib.Core.List.{List, _∷_}
 use Rattle.reader.specs.Kinds.{class}

@@ -1,31 +1,30 @@
 -- A pair of files is well formed exactly where places 1 to 12 accept it.
-use Prim.Native.Nat.{ℕ, zero, suc, _+_, _%_, _<_, _≤_}
-use mathlib.Core.Path.{_≡_, refl, sym, ap, subst, _∙_}
-use mathlib.Core.List.{List, []}
+use Prim.Native.Nat.{ℕ, _%_, _≤_}
+use mathlib.Core.Path.{_≡_, refl, sym, ap, _∙_}
+use mathlib.Core.List.{List}
 use mathlib.Core.Bool.{Bool, true, false}
 use mathlib.Core.Logic.{_↔_, _⊎_, inl, inr, ⊎-elim}
 use lib.Dec.{eqb, leb}
 use lib.ListN.{length}
 use native.Mathlib.Omega.{arith}
-use borrow.Author.Tests.{eq-eqb, eqb-true, eqb-false, leb-true, le-leb}
+use borrow.Author.Tests.{eq-eqb, eqb-true, eqb-false, le-leb}
 use Rattle.reader.specs.declared.Answer.{Answer}
-use Rattle.reader.specs.Words.{Reader, wordOf, recordCount}
-use Rattle.reader.specs.Tests.{both, either, between, every, ifEq}
+use Rattle.reader.specs.Words.{recordCount}
+use Rattle.reader.specs.Tests.{both, every, ifEq}
 use Rattle.reader.specs.Kinds.{class, isRule}
 use Rattle.reader.specs.Trees.{Tree, tree, kindOf, atomOf}
 use Rattle.reader.specs.Chains.{linked, itemTrees}
-use Rattle.reader.specs.Variables.{indicesBelow, typesBelow, isClosed}
+use Rattle.reader.specs.Variables.{isClosed}
 use Rattle.reader.specs.Answers.{accepted}
-use Rattle.reader.specs.Places.{mostRecords, lengthFits, headerFits, hypothesisChain, negatedGoal, rootOf, countOf, countsFit, goalFits, isHypothesis, typeCount, hypothesisFits, hypothesesFit, namings, reading}
-use Rattle.accepted.specs.Scan.{both-parts, both-join, either-parts, between-parts, when-equal, when-different}
+use Rattle.reader.specs.Places.{mostRecords, lengthFits, headerFits, hypothesisChain, negatedGoal, countOf, countsFit, goalFits, isHypothesis, typeCount, hypothesisFits, hypothesesFit, reading}
+use Rattle.accepted.specs.Scan.{both-join, either-parts, between-parts, when-equal, when-different}
 use Rattle.accepted.specs.Record.{Sound}
 use Rattle.accepted.specs.Classes.{link-class, class-of-kind}
-use Rattle.accepted.specs.File.{alone, beside, lastOf, ReadObligation, ReadSecond, reading-parts, reading-join, length-parts, header-parts, counts-parts, hypothesis-parts}
+use Rattle.accepted.specs.File.{alone, beside, ReadObligation, ReadSecond, reading-parts, reading-join, length-parts, header-parts, counts-parts, hypothesis-parts}
 use Rattle.accepted.specs.Agree.{sound-agrees}
 use Rattle.accepted.specs.Pair.{alone-beside, obligation-tree, obligation-linked, obligation-item-trees, obligation-goal, obligation-hypotheses, obligation-sound, root-range, pair-goal-range, pair-goal-kind, pair-goal-closed, pair-hypotheses-range, pair-hypotheses, pair-hypotheses-limit, pair-hypotheses-link}
-use Rattle.meaning.specs.Facts.{Every, Closed}
 use Rattle.meaning.specs.FactLaws.{every-in, every-out, either-first, either-second, indices-in, indices-out, types-in, types-out, closed-in, closed-out}
-use Rattle.meaning.specs.WellFormed.{WellFormedRecord, WholeRecords, Header, Goal, Hypothesis, Hypotheses, RuleKind, Root, WellFormed}
+use Rattle.meaning.specs.WellFormed.{WholeRecords, Header, Goal, Hypothesis, RuleKind, WellFormed}
 use Rattle.meaning.specs.TableLaws.{between-out}
 use Rattle.meaning.specs.RecordLaws.{record-in, record-out}
 

@@ -3,7 +3,6 @@ use Prim.Native.Nat.{ℕ, zero, suc, _<_}
 use mathlib.Core.Path.{_≡_, refl, sym, ap, _∙_}
 use mathlib.Core.List.{List, [], _∷_, map}
 use mathlib.Core.Bool.{Bool, true, false, false≢true}
-use lib.Dec.{eqb}
 use lib.ListN.{length, replicate}
 use native.Mathlib.Omega.{arith}
 use borrow.Author.Tests.{eqb-true, eq-eqb}
@@ -13,10 +12,10 @@ use Rattle.reader.specs.Kinds.{class, isNumber, isSymbol, role}
 use Rattle.reader.specs.At.{roleAt}
 use Rattle.reader.specs.Trees.{Tree, leaf, node, child, atom, tree, kindOf, firstOf, _∧ᵗ_, _⇒ᵗ_, ¬ᵗ_, ∀ᵗ, _=ᵗ_, setᵗ}
 use Rattle.reader.specs.Laws.{tree-zero, tree-step}
-use Rattle.reader.specs.Shapes.{Shape, ofClass, ofKind, negated, type, term, formula, constant, conjunction, implication, universal, equation, forAllTypes, hasShape, haveShapes}
-use Rattle.accepted.specs.Scan.{both-parts, both-join, when-less, when-true, when-false}
+use Rattle.reader.specs.Shapes.{Shape, ofClass, ofKind, negated, type, formula, forAllTypes, hasShape, haveShapes}
+use Rattle.accepted.specs.Scan.{both-parts, when-less, when-true, when-false}
 use Rattle.accepted.specs.Record.{role-known}
-use Rattle.meaning.specs.Facts.{_∈_, here, there, Every, IsType}
+use Rattle.meaning.specs.Facts.{here, there, Every, IsType}
 use Rattle.meaning.specs.FactLaws.{every-0, every-more}
 use Rattle.meaning.specs.Proves.{constantᵗ, forTypesᵗ}
 

@@ -14,3 +14,4 @@ pub mod SpellingLaws
 pub mod TypedLaws
 pub mod RecordLaws
 pub mod FileLaws
+pub mod Theorem

@@ -1,10 +1,10 @@
 -- A record is well formed exactly where it has none of the refusals 3 to 10.
-use Prim.Native.Nat.{ℕ, _<_, _≤_}
-use mathlib.Core.Path.{_≡_, refl, sym, ap, _∙_}
+use Prim.Native.Nat.{ℕ, _≤_}
+use mathlib.Core.Path.{_≡_, refl, _∙_}
 use mathlib.Core.Bool.{Bool, true, false, not}
 use lib.Dec.{eqb, leb}
 use native.Mathlib.Omega.{arith}
-use borrow.Author.Tests.{eqb-true, eqb-false, leb-true, le-leb, not-true}
+use borrow.Author.Tests.{eqb-false, le-leb}
 use Rattle.reader.specs.Words.{Reader}
 use Rattle.reader.specs.Tests.{ifEq, ifTrue}
 use Rattle.reader.specs.Trees.{tree}
@@ -12,11 +12,9 @@ use Rattle.reader.specs.Weight.{isWeighed, weight}
 use Rattle.reader.specs.Names.{nameOf, isName, nameTaken}
 use Rattle.reader.specs.Typing.{isTyped}
 use Rattle.reader.specs.Records.{mostWeight, weightFits, nameStands, nameIsFree, typingFits}
-use Rattle.accepted.specs.Scan.{when-true, when-false, when-equal, when-different}
+use Rattle.accepted.specs.Scan.{when-true, when-false, when-different}
 use Rattle.accepted.specs.Record.{Sound, weight-limit, is-typed, name-is-name, name-not-taken}
-use Rattle.meaning.specs.Table.{Entry, ChainLengths, Weighed}
-use Rattle.meaning.specs.Spelling.{GoodName, ConstantOrFunction, Symbol}
-use Rattle.meaning.specs.Typed.{Typed}
+use Rattle.meaning.specs.Spelling.{Symbol}
 use Rattle.meaning.specs.WellFormed.{WellFormedRecord}
 use Rattle.meaning.specs.TableLaws.{Fit, entry-in, entry-out, entry-kind, chains-in, name-fits, chains-out, weighed-in, weighed-out, symbol-names, application-words}
 use Rattle.meaning.specs.SpellingLaws.{good-in, good-out, own-type-in, own-in, own-out, symbol-of}

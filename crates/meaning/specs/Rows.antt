@@ -1,22 +1,21 @@
 -- A node without a fault, column by column of its row, and the rules by their kind.
-use Prim.Native.Nat.{ℕ, _+_, _≤_}
-use mathlib.Core.Path.{_≡_, refl, sym, ap, subst, _∙_}
-use mathlib.Core.List.{List, [], _∷_, _++_, map}
+use Prim.Native.Nat.{ℕ, _+_}
+use mathlib.Core.Path.{_≡_, refl}
+use mathlib.Core.List.{List, [], _++_, map}
 use mathlib.Core.Bool.{Bool, true, false, false≢true}
 use mathlib.Core.Logic.{_⊎_, inl, inr, ⊎-elim}
-use lib.Dec.{eqb, leb}
+use lib.Dec.{eqb}
 use lib.ListN.{length, getD, length-append}
-use native.Mathlib.Omega.{arith}
 use borrow.Author.Tests.{eqb-true, eq-eqb, leb-true, le-leb}
 use Rattle.reader.specs.Words.{Reader}
-use Rattle.reader.specs.Tests.{both, demand, every, ifEq}
+use Rattle.reader.specs.Tests.{every, ifEq}
 use Rattle.reader.specs.Kinds.{isRule}
 use Rattle.reader.specs.Trees.{Tree, tree}
 use Rattle.reader.specs.Chains.{parts, premises}
 use Rattle.reader.specs.Shapes.{haveShapes}
 use Rattle.accepted.specs.Scan.{both-parts, both-join, demand-parts, demand-join}
 use Rattle.proof_check.specs.Rules.{Row, row}
-use Rattle.proof_check.specs.Check.{member, isFresh, rowOf, premisesFit, hasRoom, rowFault, nodeFault, premiseSequent}
+use Rattle.proof_check.specs.Check.{rowOf, premisesFit, hasRoom, rowFault, nodeFault, premiseSequent}
 use Rattle.meaning.specs.Facts.{_∈_, Every, Fresh}
 use Rattle.meaning.specs.FactLaws.{every-in, every-out, member-in, member-out, fresh-in, fresh-out}
 use Rattle.meaning.specs.Proves.{Fits}

@@ -4,16 +4,16 @@ use mathlib.Core.Path.{_≡_, refl, sym, ap, subst, _∙_}
 use mathlib.Core.List.{List, [], _∷_}
 use mathlib.Core.Bool.{Bool, true, false, not, false≢true}
 use mathlib.Core.Logic.{_⊎_, inl, inr, ⊎-elim}
-use lib.Dec.{eqb, ltb, leb}
+use lib.Dec.{eqb}
 use native.Mathlib.Omega.{arith}
-use borrow.Author.Tests.{eq-eqb, ne-eqb, eqb-true, eqb-false, not-true, not-false}
+use borrow.Author.Tests.{eq-eqb, ne-eqb, eqb-true, eqb-false, not-true}
 use Rattle.reader.specs.Words.{Reader}
-use Rattle.reader.specs.Tests.{both, either, between, every, ifEq, ifTrue}
+use Rattle.reader.specs.Tests.{both, either, between, ifEq, ifTrue}
 use Rattle.reader.specs.Chains.{linked}
 use Rattle.reader.specs.Names.{nameOf, nameSpace, nameBytes, isLetter, isDigitOrUnderscore, single, accented, characters, name, hasBytes, startsWell, isName, sameName, takenBelow, nameTaken}
 use Rattle.accepted.specs.Scan.{both-parts, both-join, either-parts, between-parts, when-true, when-false, when-equal, when-different}
-use Rattle.accepted.specs.Record.{same-name-self, smaller-name-differs}
-use Rattle.meaning.specs.Facts.{_∈_, here, there, Every}
+use Rattle.accepted.specs.Record.{smaller-name-differs}
+use Rattle.meaning.specs.Facts.{here, there, Every}
 use Rattle.meaning.specs.FactLaws.{every-0, every-more, every-in, every-out, not-so, failed, either-first, either-second}
 use Rattle.meaning.specs.Spelling.{Letter, DigitOrUnderscore, Accented, Spelled, SpelledName, GoodName, ConstantOrFunction, Symbol}
 use Rattle.meaning.specs.TableLaws.{between-out}

@@ -1,7 +1,6 @@
 -- The table of records of paper 01: the kind of a record and each of its words, the lengths of its chains, the kinds with a weight.
 use Prim.Native.Nat.{ℕ, _<_, _≤_}
 use mathlib.Core.Path.{_≡_}
-use mathlib.Core.List.{List}
 use mathlib.Core.Logic.{_⊎_}
 use lib.ListN.{length}
 use Rattle.reader.specs.Words.{Reader}

@@ -1,26 +1,23 @@
 -- A record is one of the table exactly where its kind, the ranges of its words and its references pass; the same for chain lengths and kinds with a weight.
-use Prim.Native.Nat.{ℕ, zero, suc, _+_, _<_, _≤_}
+use Prim.Native.Nat.{ℕ, zero, suc, _<_, _≤_}
 use mathlib.Core.Path.{_≡_, refl, sym, ap, _∙_}
-use mathlib.Core.List.{List}
 use mathlib.Core.Bool.{Bool, true, false, false≢true}
 use mathlib.Core.Logic.{_⊎_, inl, inr, ⊎-elim}
-use lib.Dec.{eqb, ltb, leb}
-use lib.ListN.{length}
+use lib.Dec.{eqb, ltb}
 use native.Mathlib.Omega.{arith}
-use borrow.Author.Tests.{eq-eqb, ne-eqb, eqb-true, eqb-false, lt-ltb, ltb-true, le-leb, leb-true}
+use borrow.Author.Tests.{eq-eqb, eqb-true, eqb-false, lt-ltb, ltb-true, le-leb, leb-true}
 use Rattle.reader.specs.Words.{Reader}
-use Rattle.reader.specs.Tests.{both, between, every, ifEq, ifLt, ifTrue}
+use Rattle.reader.specs.Tests.{both, between, every, ifEq, ifLt}
 use Rattle.reader.specs.Kinds.{class, isRule, isKind, role, ruleRole}
 use Rattle.reader.specs.At.{classAt, roleAt}
 use Rattle.reader.specs.Trees.{lower}
-use Rattle.reader.specs.Chains.{linked, items}
+use Rattle.reader.specs.Chains.{items}
 use Rattle.reader.specs.Weight.{isWeighed}
 use Rattle.reader.specs.Names.{nameOf}
 use Rattle.reader.specs.Records.{inRange, rangeAt, mayBeZero, wantedClass, itemClass, hasClass, itemsHaveClass, refers, refersAt, nameFits, typesFit, argumentsFit, chainsOf}
 use Rattle.accepted.specs.Scan.{both-parts, both-join, between-parts, when-less, when-not-less, when-equal, when-different}
 use Rattle.accepted.specs.Record.{role-known}
 use Rattle.accepted.specs.Parts.{lower-zero}
-use Rattle.meaning.specs.Facts.{Every}
 use Rattle.meaning.specs.FactLaws.{every-in, every-out}
 use Rattle.meaning.specs.Spelling.{ConstantOrFunction, Symbol}
 use Rattle.meaning.specs.Table.{NamesAny, Names, MayName, NamesChain, MayNameChain, Entry, ChainLengths, Weighed}

@@ -1,26 +1,23 @@
 -- A record is typed as its kind asks exactly where the test of its typing passes.
-use Prim.Native.Nat.{ℕ, zero, suc, _+_, _<_, _≤_}
+use Prim.Native.Nat.{ℕ, zero, suc, _+_, _<_}
 use mathlib.Core.Path.{_≡_, refl, sym, ap, subst, _∙_}
 use mathlib.Core.List.{List, [], _∷_, map}
 use mathlib.Core.Bool.{Bool, true, false, false≢true}
-use mathlib.Core.Logic.{_⊎_, inl, inr}
 use lib.Dec.{eqb}
 use lib.ListN.{length, getD, drop}
 use native.Mathlib.Omega.{arith}
 use borrow.Author.Tests.{eq-eqb, eqb-true}
 use Rattle.reader.specs.Words.{Reader}
-use Rattle.reader.specs.Tests.{both, every, ifEq}
-use Rattle.reader.specs.Trees.{Tree, leaf, node, lower, child, tree, kindOf, firstOf, secondOf, thirdOf, same, ∀ᵗ, _=ᵗ_, setᵗ, pairᵗ}
+use Rattle.reader.specs.Tests.{both, ifEq}
+use Rattle.reader.specs.Trees.{Tree, leaf, node, lower, child, tree, kindOf, firstOf, secondOf, thirdOf, same, setᵗ, pairᵗ}
 use Rattle.reader.specs.Chains.{itemTrees}
-use Rattle.reader.specs.Variables.{bears, typesBelow, instance}
+use Rattle.reader.specs.Variables.{typesBelow, instance}
 use Rattle.reader.specs.Laws.{tree-zero, tree-step, same-equal, same-self}
 use Rattle.reader.specs.Typing.{typeOf, sameAll, pairTyped, productTyped, powersetTyped, equalTyped, memberTyped, forAllTyped, constantTyped, signature, functionTyped, applicationTyped, isTyped}
-use Rattle.accepted.specs.Scan.{both-parts, both-join, when-equal, when-different}
-use Rattle.meaning.specs.Facts.{Every, TypesBelow, Bears}
+use Rattle.accepted.specs.Scan.{both-parts, both-join}
+use Rattle.meaning.specs.Facts.{TypesBelow}
 use Rattle.meaning.specs.FactLaws.{every-in, every-out, types-in, types-out, bears-in, bears-out}
-use Rattle.meaning.specs.Proves.{constantᵗ}
 use Rattle.meaning.specs.Forms.{kind-is, constant-made, pair-made, product-made, powerset-made, for-all-made, equal-made, member-made, set-made}
-use Rattle.meaning.specs.Table.{Entry}
 use Rattle.meaning.specs.Typed.{Applied, Typed}
 
 -- what record j says, or nothing, is a type of a tree of a record
