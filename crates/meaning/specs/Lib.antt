@@ -15,3 +15,6 @@ pub mod TypedLaws
 pub mod RecordLaws
 pub mod FileLaws
 pub mod Theorem
+pub mod Refused
+pub mod StopLaws
+pub mod Refusals

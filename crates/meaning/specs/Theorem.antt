@@ -25,8 +25,8 @@ abbrev pub RootProves : List ℕ → List ℕ → ℕ → Type 0
 RootProves ob pf k = Proves (beside ob pf) (startSequent (beside ob pf)) (rootOf pf) k
 
 -- record 0 is the header, kind 1
-head : (ob pf : List ℕ) → WellFormed ob pf → beside ob pf 0 0 ≡ 1
-head ob pf w = word-first ob pf (countOf ob) 0 0 (omega arith) ∙ w .obligationHeader .first
+pub head : (ob pf : List ℕ) → WellFormed ob pf → beside ob pf 0 0 ≡ 1
+head ob pf w = word-first ob pf (countOf ob) 0 0 (omega arith) ∙ w .obligation .header .first
 
 -- where the answer has no refusal, both the reading and the walk accept
 read-and-walked : (ob pf : List ℕ) → proofAnswer ob pf .refusal ≡ 0 →
@@ -37,7 +37,7 @@ read-and-walked ob pf h =
     let r = reading-parts 1 ob pf (p .0) in
     (reading-join 1 ob pf (r .0) (r .1), p .1)
 
-answer-is : (ob pf : List ℕ) → reading 1 ob pf ≡ accepted 0 → proofAnswer ob pf ≡ proofWalk (beside ob pf) (rootOf pf)
+pub answer-is : (ob pf : List ℕ) → reading 1 ob pf ≡ accepted 0 → proofAnswer ob pf ≡ proofWalk (beside ob pf) (rootOf pf)
 unfolding proofAnswer
 answer-is ob pf h = orAnswer-join (reading 1 ob pf) _ (ap (λ (a : Answer). a .refusal) h)
 

@@ -11,7 +11,7 @@ use Rattle.reader.specs.Chains.{linked, itemTrees}
 use Rattle.reader.specs.Weight.{weight}
 use Rattle.reader.specs.Names.{name}
 use Rattle.reader.specs.Places.{hypothesisChain, negatedGoal, rootOf, countOf, namings}
-use Rattle.accepted.specs.File.{beside, lastOf}
+use Rattle.accepted.specs.File.{alone, beside, lastOf}
 use Rattle.meaning.specs.Facts.{Every, IsFormula, IndicesBelow, TypesBelow, Closed}
 use Rattle.meaning.specs.Table.{Entry, ChainLengths, Weighed}
 use Rattle.meaning.specs.Spelling.{GoodName, ConstantOrFunction, Symbol}
@@ -69,18 +69,33 @@ pub record Root (rd : Reader) (root m last : ℕ) : Type 0 where
   pub inRange : root ≤ last
   pub rule : RuleKind (rd root 0)
 
--- An obligation and a proof that pass places 1 to 12, through one numbering.
-pub record WellFormed (ob pf : List ℕ) : Type 0 where
-  pub obligationLength : WholeRecords 1024 ob
-  pub obligationHeader : Header ob
-  pub obligationRecords : (i : ℕ) → 1 ≤ i → i ≤ countOf ob → WellFormedRecord 0 (beside ob pf) i
-  pub goal : Goal (beside ob pf) (countOf ob)
-  pub hypotheses : Hypotheses (beside ob pf) (countOf ob)
-  pub proofLength : WholeRecords 3073 pf
-  pub proofHeader : Header pf
-  pub proofCount : wordOf pf 0 3 ≡ countOf ob
-  pub proofRecords : (i : ℕ) → countOf ob + 1 ≤ i → i ≤ lastOf ob pf → WellFormedRecord 1 (beside ob pf) i
+-- "named exactly once, counting premise chains of nodes and the header's root": where record i is a rule node, the root counts 1 for itself and `namings`
+-- are those of the premise chains.
+abbrev pub NamedOnce : List ℕ → List ℕ → ℕ → Type 0
+NamedOnce ob pf i = RuleKind (beside ob pf i 0) → ifEq (rootOf pf) i 1 0 + namings 1 (beside ob pf) i (lastOf ob pf) ≡ 1
+
+-- The second file's header has the obligation's count too.
+pub record ProofHeader (ob pf : List ℕ) : Type 0 where
+  pub header : Header pf
+  pub count : wordOf pf 0 3 ≡ countOf ob
+
+-- An obligation that passes all of its places; its records are those of the file by itself.
+pub record WellFormedObligation (ob : List ℕ) : Type 0 where
+  pub wholeRecords : WholeRecords 1024 ob
+  pub header : Header ob
+  pub records : (i : ℕ) → 1 ≤ i → i ≤ countOf ob → WellFormedRecord 0 (alone ob) i
+  pub goal : Goal (alone ob) (countOf ob)
+  pub hypotheses : Hypotheses (alone ob) (countOf ob)
+
+-- A proof that passes places 1 to 12, its records m + 1 to m + n read beside the obligation's through one numbering.
+pub record WellFormedProof (ob pf : List ℕ) : Type 0 where
+  pub wholeRecords : WholeRecords 3073 pf
+  pub header : ProofHeader ob pf
+  pub records : (i : ℕ) → countOf ob + 1 ≤ i → i ≤ lastOf ob pf → WellFormedRecord 1 (beside ob pf) i
   pub root : Root (beside ob pf) (rootOf pf) (countOf ob) (lastOf ob pf)
-  -- "named exactly once, counting premise chains of nodes and the header's root": the root counts 1 for itself, `namings` are those of the premise chains
-  pub once : (i : ℕ) → countOf ob + 1 ≤ i → i ≤ lastOf ob pf → RuleKind (beside ob pf i 0) →
-      ifEq (rootOf pf) i 1 0 + namings 1 (beside ob pf) i (lastOf ob pf) ≡ 1
+  pub once : (i : ℕ) → countOf ob + 1 ≤ i → i ≤ lastOf ob pf → NamedOnce ob pf i
+
+-- A well-formed pair.
+pub record WellFormed (ob pf : List ℕ) : Type 0 where
+  pub obligation : WellFormedObligation ob
+  pub proof : WellFormedProof ob pf
