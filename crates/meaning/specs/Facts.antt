@@ -16,7 +16,7 @@ pub data _∈_ {A : Type 0} (x : A) : List A → Type 0 where
 abbrev pub Every : {A : Type 0} → (A → Type 0) → List A → Type 0
 Every {A} Q xs = (x : A) → x ∈ xs → Q x
 
--- classes, by the table of records
+-- classes, by the table of records: types are kinds 3 to 6, terms 7 and 9 to 13, formulas 14 to 21
 abbrev pub IsType : Tree → Type 0
 IsType t = class (kindOf t) ≡ 3
 

@@ -5,10 +5,10 @@ use mathlib.Core.List.{List, [], _∷_, _++_}
 use lib.ListN.{length}
 use Rattle.reader.specs.Words.{Reader}
 use Rattle.reader.specs.Trees.{Tree, ⊥ᵗ, ⊤ᵗ, _∧ᵗ_, _⇒ᵗ_, ¬ᵗ_, ∀ᵗ, _=ᵗ_}
-use Rattle.reader.specs.Variables.{replaced, instance}
+use Rattle.reader.specs.Variables.{instance}
 use Rattle.reader.specs.Typing.{typeOf}
 use Rattle.meaning.specs.Facts.{_∈_, Every, IsType, IsTerm, IsFormula, IndicesBelow, Closed, Bears, Fresh}
-use Rattle.meaning.specs.Proves.{constantᵗ, forTypesᵗ, Proves}
+use Rattle.meaning.specs.Proves.{_⟨_⟩, constantᵗ, forTypesᵗ, Proves}
 
 -- Γ ⊢ ⊥ in the calculus: "All formulæ are on the left hand side", "the contraction rule is always applied".
 pub data LL : List Tree → Type 0 where
@@ -25,18 +25,18 @@ pub data LL : List Tree → Type 0 where
   negated-conjunction : {Γ : List Tree} {P Q : Tree} → (¬ᵗ (P ∧ᵗ Q)) ∈ Γ → LL (Γ ++ (¬ᵗ P ∷ [])) → LL (Γ ++ (¬ᵗ Q ∷ [])) → LL Γ
   -- "where c : τ is a fresh constant"
   negated-universal : {Γ : List Tree} {c : ℕ} {τ B : Tree} →
-      (¬ᵗ (∀ᵗ τ B)) ∈ Γ → Closed (constantᵗ c τ) → Fresh c Γ → LL (Γ ++ (¬ᵗ (replaced 0 (constantᵗ c τ) B) ∷ [])) → LL Γ
+      (¬ᵗ (∀ᵗ τ B)) ∈ Γ → Closed (constantᵗ c τ) → Fresh c Γ → LL (Γ ++ (¬ᵗ (B ⟨ constantᵗ c τ ⟩) ∷ [])) → LL Γ
   -- "where t : τ is any closed term"
   universal : {Γ : List Tree} {τ B t : Tree} →
-      (∀ᵗ τ B) ∈ Γ → IsTerm t → typeOf t ≡ τ → Closed t → LL (Γ ++ (replaced 0 t B ∷ [])) → LL Γ
+      (∀ᵗ τ B) ∈ Γ → IsTerm t → typeOf t ≡ τ → Closed t → LL (Γ ++ (B ⟨ t ⟩ ∷ [])) → LL Γ
   -- "where τ is any closed type", one for each type variable
   type-universal : {Γ : List Tree} {P : Tree} {τs : List Tree} →
       forTypesᵗ (length τs) P ∈ Γ → Every IsType τs → Every Closed τs → LL (Γ ++ (instance τs P ∷ [])) → LL Γ
   -- t and u of one type, that of the place
   substitution : {Γ : List Tree} {B t u : Tree} →
-      replaced 0 t B ∈ Γ → IsFormula B → IndicesBelow 1 B → IsTerm t → IsTerm u → Closed t → Closed u →
+      B ⟨ t ⟩ ∈ Γ → IsFormula B → IndicesBelow 1 B → IsTerm t → IsTerm u → Closed t → Closed u →
       typeOf t ≡ typeOf u → Bears (typeOf t) 0 B →
-      LL (Γ ++ (¬ᵗ (t =ᵗ u) ∷ [])) → LL (Γ ++ (replaced 0 u B ∷ [])) → LL Γ
+      LL (Γ ++ (¬ᵗ (t =ᵗ u) ∷ [])) → LL (Γ ++ (B ⟨ u ⟩ ∷ [])) → LL Γ
 
 -- A tree of rule nodes is a derivation, the records forgotten.
 pub proves-LL : {rd : Reader} {Γ : List Tree} {n k : ℕ} → Proves rd Γ n k → LL Γ

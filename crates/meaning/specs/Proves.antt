@@ -10,6 +10,11 @@ use Rattle.reader.specs.Variables.{replaced, instance}
 use Rattle.reader.specs.Typing.{typeOf}
 use Rattle.meaning.specs.Facts.{_∈_, Every, IsType, IsTerm, IsFormula, IndicesBelow, Closed, Bears, Fresh}
 
+infix 80 _⟨_⟩
+-- "B(t) is B with index 0 replaced"
+abbrev pub _⟨_⟩ : Tree → Tree → Tree
+B ⟨ t ⟩ = replaced 0 t B
+
 -- the constant with record number c, of type τ
 abbrev pub constantᵗ : ℕ → Tree → Tree
 constantᵗ c τ = node 7 c τ leaf leaf
@@ -70,18 +75,18 @@ pub data Proves (rd : Reader) : List Tree → ℕ → ℕ → Type 0 where
       Node rd n 42 (¬ᵗ (P ∧ᵗ Q) ∷ []) (x ∷ y ∷ []) → Closed (¬ᵗ (P ∧ᵗ Q)) → (¬ᵗ (P ∧ᵗ Q)) ∈ Γ →
       Fits (Γ ++ (¬ᵗ P ∷ [])) → Proves rd (Γ ++ (¬ᵗ P ∷ [])) x k →
       Fits (Γ ++ (¬ᵗ Q ∷ [])) → Proves rd (Γ ++ (¬ᵗ Q ∷ [])) y j → Proves rd Γ n (suc (k + j))
-  -- 43  ¬∀, with a constant c of type τ that is fresh in every member; B(c) is B with index 0 replaced
+  -- 43  ¬∀, with a constant c of type τ that is fresh in every member
   negated-universal : {Γ : List Tree} {n x k c : ℕ} {τ B : Tree} →
-      Node rd n 43 (¬ᵗ (∀ᵗ τ B) ∷ constantᵗ c τ ∷ replaced 0 (constantᵗ c τ) B ∷ []) (x ∷ []) →
-      IsFormula (replaced 0 (constantᵗ c τ) B) → Closed (¬ᵗ (∀ᵗ τ B)) → Closed (constantᵗ c τ) → Closed (replaced 0 (constantᵗ c τ) B) →
+      Node rd n 43 (¬ᵗ (∀ᵗ τ B) ∷ constantᵗ c τ ∷ B ⟨ constantᵗ c τ ⟩ ∷ []) (x ∷ []) →
+      IsFormula (B ⟨ constantᵗ c τ ⟩) → Closed (¬ᵗ (∀ᵗ τ B)) → Closed (constantᵗ c τ) → Closed (B ⟨ constantᵗ c τ ⟩) →
       (¬ᵗ (∀ᵗ τ B)) ∈ Γ → Fresh c Γ →
-      Fits (Γ ++ (¬ᵗ (replaced 0 (constantᵗ c τ) B) ∷ [])) → Proves rd (Γ ++ (¬ᵗ (replaced 0 (constantᵗ c τ) B) ∷ [])) x k → Proves rd Γ n (suc k)
+      Fits (Γ ++ (¬ᵗ (B ⟨ constantᵗ c τ ⟩) ∷ [])) → Proves rd (Γ ++ (¬ᵗ (B ⟨ constantᵗ c τ ⟩) ∷ [])) x k → Proves rd Γ n (suc k)
   -- 44  ∀, with a closed term t of type τ
   universal : {Γ : List Tree} {n x k : ℕ} {τ B t : Tree} →
-      Node rd n 44 (∀ᵗ τ B ∷ t ∷ replaced 0 t B ∷ []) (x ∷ []) →
-      IsTerm t → typeOf t ≡ τ → IsFormula (replaced 0 t B) → Closed (∀ᵗ τ B) → Closed t → Closed (replaced 0 t B) →
+      Node rd n 44 (∀ᵗ τ B ∷ t ∷ B ⟨ t ⟩ ∷ []) (x ∷ []) →
+      IsTerm t → typeOf t ≡ τ → IsFormula (B ⟨ t ⟩) → Closed (∀ᵗ τ B) → Closed t → Closed (B ⟨ t ⟩) →
       (∀ᵗ τ B) ∈ Γ →
-      Fits (Γ ++ (replaced 0 t B ∷ [])) → Proves rd (Γ ++ (replaced 0 t B ∷ [])) x k → Proves rd Γ n (suc k)
+      Fits (Γ ++ (B ⟨ t ⟩ ∷ [])) → Proves rd (Γ ++ (B ⟨ t ⟩ ∷ [])) x k → Proves rd Γ n (suc k)
   -- 45  ∀type, with as many closed types as the count, variable 0's first
   type-universal : {Γ : List Tree} {n x k : ℕ} {P : Tree} {τs : List Tree} →
       Node rd n 45 (forTypesᵗ (length τs) P ∷ instance τs P ∷ τs) (x ∷ []) →
@@ -90,9 +95,9 @@ pub data Proves (rd : Reader) : List Tree → ℕ → ℕ → Type 0 where
       Fits (Γ ++ (instance τs P ∷ [])) → Proves rd (Γ ++ (instance τs P ∷ [])) x k → Proves rd Γ n (suc k)
   -- 46  Subst, B open in index 0 at most, t and u closed terms of one type, that of each place in B
   substitution : {Γ : List Tree} {n x y k j : ℕ} {B t u : Tree} →
-      Node rd n 46 (B ∷ t ∷ u ∷ replaced 0 t B ∷ replaced 0 u B ∷ []) (x ∷ y ∷ []) →
+      Node rd n 46 (B ∷ t ∷ u ∷ B ⟨ t ⟩ ∷ B ⟨ u ⟩ ∷ []) (x ∷ y ∷ []) →
       IsFormula B → IndicesBelow 1 B → IsTerm t → IsTerm u → typeOf t ≡ typeOf u → Bears (typeOf t) 0 B →
-      Closed t → Closed u → IsFormula (replaced 0 t B) → Closed (replaced 0 t B) → IsFormula (replaced 0 u B) → Closed (replaced 0 u B) →
-      replaced 0 t B ∈ Γ →
+      Closed t → Closed u → IsFormula (B ⟨ t ⟩) → Closed (B ⟨ t ⟩) → IsFormula (B ⟨ u ⟩) → Closed (B ⟨ u ⟩) →
+      B ⟨ t ⟩ ∈ Γ →
       Fits (Γ ++ (¬ᵗ (t =ᵗ u) ∷ [])) → Proves rd (Γ ++ (¬ᵗ (t =ᵗ u) ∷ [])) x k →
-      Fits (Γ ++ (replaced 0 u B ∷ [])) → Proves rd (Γ ++ (replaced 0 u B ∷ [])) y j → Proves rd Γ n (suc (k + j))
+      Fits (Γ ++ (B ⟨ u ⟩ ∷ [])) → Proves rd (Γ ++ (B ⟨ u ⟩ ∷ [])) y j → Proves rd Γ n (suc (k + j))
