@@ -1,0 +1,1 @@
+// What acceptance by the proof check means. The definitions and theorems stand in specs/.
