@@ -1,0 +1,3 @@
+pub mod Erase
+pub mod Rules
+pub mod Check
