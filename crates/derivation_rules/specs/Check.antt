@@ -72,9 +72,17 @@ nodeFault rd st n = rowFault rd n st (rowOf rd st n)
 unfoldable pub premiseState : Reader → Sequent → ℕ → ℕ → Sequent
 premiseState rd st n b = getD (rowOf rd st n .premises) b st
 
--- "The start is: hypotheses ⊢ goal"; the goal is "the formula under the ¬ that the obligation's header names"
+-- the hypotheses, types removed
+unfoldable pub hypotheses : Reader → List Tree
+hypotheses rd = map (bareTree rd) (items rd (hypothesisChain rd))
+
+-- "The goal of a derivation's start is the formula under the ¬ that the obligation's header names."
+unfoldable pub goalOf : Reader → Tree
+goalOf rd = ⌊ firstOf (tree rd (negatedGoal rd)) ⌋
+
+-- "The start is: hypotheses ⊢ goal."
 unfoldable pub startSequent : Reader → Sequent
-startSequent rd = sequent (map (bareTree rd) (items rd (hypothesisChain rd))) ⌊ firstOf (tree rd (negatedGoal rd)) ⌋ 1
+startSequent rd = sequent (hypotheses rd) (goalOf rd) 1
 
 -- the walk from the root
 unfoldable pub derivationWalk : Reader → ℕ → Answer

@@ -1,7 +1,7 @@
 -- "Types are dropped: records compare without them, ⊤ reads as ¬⊥, kind 22 as its formula, in parts too."
 use Prim.Native.Nat.{ℕ}
 use mathlib.Core.List.{List, map}
-use mathlib.Core.Bool.{Bool, true, false}
+use mathlib.Core.Bool.{Bool, true}
 use lib.Dec.{eqb}
 use Rattle.reader.specs.Words.{Reader}
 use Rattle.reader.specs.Tests.{ifEq, ifTrue}

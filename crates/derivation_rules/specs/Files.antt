@@ -20,7 +20,7 @@ use Rattle.reader.specs.Shapes.{hasShape, haveShapes}
 use Rattle.reader.specs.Walk.{andThen, nodeStep, linkStep, walkStep, walks, walkNode, walkLinks}
 use Rattle.derivation_rules.specs.Erase.{isType, untyped, bare, ⌊_⌋, bareTree, bareParts}
 use Rattle.derivation_rules.specs.Rules.{Sequent, row}
-use Rattle.derivation_rules.specs.Check.{member, goalFormed, premisesFit, needsMet, noOther, isFresh, hasRoom, depthFits, rowFault, rowOf, nodeFault, premiseState, startSequent, derivationWalk, derivationAnswer}
+use Rattle.derivation_rules.specs.Check.{member, goalFormed, premisesFit, needsMet, noOther, isFresh, hasRoom, depthFits, rowFault, rowOf, nodeFault, premiseState, hypotheses, goalOf, startSequent, derivationWalk, derivationAnswer}
 
 -- a record's words k, a, b, c
 pub record Words : Type 0 where
@@ -51,7 +51,7 @@ gives c = c .answer
 
 -- The definition's answers, one after the other. Its line `unfolding` lets the examples compute, from the bytes on.
 unfoldable pub answersOf : List Case → List Answer
-unfolding wordFrom wordOf through word recordCount iter down both either demand orElse ifEq ifLt ifTrue between every isRule isKind class ruleRole role isNumber isSymbol kindAt classAt roleAt lower child atom treeStep tree kindOf atomOf firstOf secondOf thirdOf sameHead same linkedStep linked items itemTrees parts premises isWeighed ownWeight weight nameOf nameSpace bytesOf recordBytes trimmed nameBytes isLetter isDigitOrUnderscore single accented characters name hasBytes startsWell isName sameName takenBelow nameTaken binders isIndex replaced bears isBound indicesBelow isTypeBelow typesBelow isClosed isConstant occurs instance typeOf sameAll pairTyped productTyped powersetTyped equalTyped memberTyped forAllTyped constantTyped signature functionTyped applicationTyped isTyped placed orAnswer firstFault inRange rangeAt rangesFit mayBeZero wantedClass itemClass hasClass itemsHaveClass refers refersAt referencesFit nameFits typesFit argumentsFit chainsOf chainsFit mostWeight weightFits nameStands nameIsFree typingFits kindFits wordsFault contentFault recordFault mostRecords lengthFits headerFits countsFit goalFits isHypothesis typeCount hypothesisFits hypothesesFit timesIn namings namingFault obligationReading secondReading reading hasShape haveShapes andThen nodeStep linkStep walkStep walks walkNode walkLinks isType untyped bare ⌊_⌋ bareTree bareParts row member goalFormed premisesFit needsMet noOther isFresh hasRoom depthFits rowFault rowOf nodeFault premiseState startSequent derivationWalk derivationAnswer
+unfolding wordFrom wordOf through word recordCount iter down both either demand orElse ifEq ifLt ifTrue between every isRule isKind class ruleRole role isNumber isSymbol kindAt classAt roleAt lower child atom treeStep tree kindOf atomOf firstOf secondOf thirdOf sameHead same linkedStep linked items itemTrees parts premises isWeighed ownWeight weight nameOf nameSpace bytesOf recordBytes trimmed nameBytes isLetter isDigitOrUnderscore single accented characters name hasBytes startsWell isName sameName takenBelow nameTaken binders isIndex replaced bears isBound indicesBelow isTypeBelow typesBelow isClosed isConstant occurs instance typeOf sameAll pairTyped productTyped powersetTyped equalTyped memberTyped forAllTyped constantTyped signature functionTyped applicationTyped isTyped placed orAnswer firstFault inRange rangeAt rangesFit mayBeZero wantedClass itemClass hasClass itemsHaveClass refers refersAt referencesFit nameFits typesFit argumentsFit chainsOf chainsFit mostWeight weightFits nameStands nameIsFree typingFits kindFits wordsFault contentFault recordFault mostRecords lengthFits headerFits countsFit goalFits isHypothesis typeCount hypothesisFits hypothesesFit timesIn namings namingFault obligationReading secondReading reading hasShape haveShapes andThen nodeStep linkStep walkStep walks walkNode walkLinks isType untyped bare ⌊_⌋ bareTree bareParts row member goalFormed premisesFit needsMet noOther isFresh hasRoom depthFits rowFault rowOf nodeFault premiseState hypotheses goalOf startSequent derivationWalk derivationAnswer
 answersOf cases = map (λ (c : Case). derivationAnswer (c .obligation) (c .derivation)) cases
 
 -- a node that is to derive a sequent, and its refusal
@@ -65,5 +65,5 @@ refuses t = t .refusal
 
 -- The definition's refusals of nodes of one file, one after the other, 0 for none.
 unfoldable pub refusalsOf : List Words → List Test → List ℕ
-unfolding wordFrom wordOf through word recordCount iter down both either demand orElse ifEq ifLt ifTrue between every isRule isKind class ruleRole role isNumber isSymbol kindAt classAt roleAt lower child atom treeStep tree kindOf atomOf firstOf secondOf thirdOf sameHead same linkedStep linked items itemTrees parts premises isWeighed ownWeight weight nameOf nameSpace bytesOf recordBytes trimmed nameBytes isLetter isDigitOrUnderscore single accented characters name hasBytes startsWell isName sameName takenBelow nameTaken binders isIndex replaced bears isBound indicesBelow isTypeBelow typesBelow isClosed isConstant occurs instance typeOf sameAll pairTyped productTyped powersetTyped equalTyped memberTyped forAllTyped constantTyped signature functionTyped applicationTyped isTyped placed orAnswer firstFault inRange rangeAt rangesFit mayBeZero wantedClass itemClass hasClass itemsHaveClass refers refersAt referencesFit nameFits typesFit argumentsFit chainsOf chainsFit mostWeight weightFits nameStands nameIsFree typingFits kindFits wordsFault contentFault recordFault mostRecords lengthFits headerFits countsFit goalFits isHypothesis typeCount hypothesisFits hypothesesFit timesIn namings namingFault obligationReading secondReading reading hasShape haveShapes andThen nodeStep linkStep walkStep walks walkNode walkLinks isType untyped bare ⌊_⌋ bareTree bareParts row member goalFormed premisesFit needsMet noOther isFresh hasRoom depthFits rowFault rowOf nodeFault premiseState startSequent derivationWalk derivationAnswer
+unfolding wordFrom wordOf through word recordCount iter down both either demand orElse ifEq ifLt ifTrue between every isRule isKind class ruleRole role isNumber isSymbol kindAt classAt roleAt lower child atom treeStep tree kindOf atomOf firstOf secondOf thirdOf sameHead same linkedStep linked items itemTrees parts premises isWeighed ownWeight weight nameOf nameSpace bytesOf recordBytes trimmed nameBytes isLetter isDigitOrUnderscore single accented characters name hasBytes startsWell isName sameName takenBelow nameTaken binders isIndex replaced bears isBound indicesBelow isTypeBelow typesBelow isClosed isConstant occurs instance typeOf sameAll pairTyped productTyped powersetTyped equalTyped memberTyped forAllTyped constantTyped signature functionTyped applicationTyped isTyped placed orAnswer firstFault inRange rangeAt rangesFit mayBeZero wantedClass itemClass hasClass itemsHaveClass refers refersAt referencesFit nameFits typesFit argumentsFit chainsOf chainsFit mostWeight weightFits nameStands nameIsFree typingFits kindFits wordsFault contentFault recordFault mostRecords lengthFits headerFits countsFit goalFits isHypothesis typeCount hypothesisFits hypothesesFit timesIn namings namingFault obligationReading secondReading reading hasShape haveShapes andThen nodeStep linkStep walkStep walks walkNode walkLinks isType untyped bare ⌊_⌋ bareTree bareParts row member goalFormed premisesFit needsMet noOther isFresh hasRoom depthFits rowFault rowOf nodeFault premiseState hypotheses goalOf startSequent derivationWalk derivationAnswer
 refusalsOf file tests = map (λ (t : Test). nodeFault (word (bytes file) [] (countOf (bytes file))) (t .state) (t .node)) tests
