@@ -1,0 +1,10 @@
+pub mod Notions
+pub mod Derives
+pub mod Derivable
+pub mod TestLaws
+pub mod Plain
+pub mod RowLaws
+pub mod Cases
+pub mod Sound
+pub mod Complete
+pub mod Meaning

@@ -1,0 +1,1 @@
+// What acceptance of a derivation means. The theorems stand in specs/.
