@@ -35,13 +35,7 @@ fn are_closed(obligation: &[u8], second: &[u8], m: usize, c: usize) -> bool
 }
 
 // ¬(t=t): is the one t the other?
-fn fits_equation(
-    obligation: &[u8],
-    second: &[u8],
-    m: usize,
-    numbers: &[usize],
-    n: usize,
-) -> bool
+fn fits_equation(obligation: &[u8], second: &[u8], m: usize, numbers: &[usize], n: usize) -> bool
     requires { ⌜ Numbered (word (now obligation) (now second) m) (now numbers) (length (now numbers)) ⌝ }
     ensures { λ r. ⌜ r ≡ fits35 (partTrees (word (now (obligation .entry)) (now (second .entry)) m) n) ⌝ }
 {
