@@ -1,6 +1,7 @@
 // Places 1 to 12, top to bottom, the obligation through all of its places first.
 use crate::headers;
 use crate::roots;
+use equality::numbers::number_all;
 use reader::Answer;
 use reader::kinds;
 use reader::words;
@@ -8,9 +9,8 @@ use records::faults;
 ghost use mathlib.Core.Path.{_≡_};
 ghost use Prim.Native.Nat.{_+_, _<_, _≤_};
 ghost use lib.ListN.{length};
-ghost use mathlib.Core.List.{[]};
-ghost use Rattle.reader.specs.Places.{mostRecords, countOf, rootOf, obligationReading, secondReading, reading};
-ghost use Rattle.records.specs.Weights.{Filled};
+ghost use Rattle.reader.specs.Places.{countOf, rootOf, obligationReading, secondReading, reading};
+ghost use Rattle.equality.specs.Least.{Numbered};
 ghost use Rattle.naming.specs.Totals.{Cleared};
 ghost use Rattle.reading.specs.Places.{recordsAndRoots, rootAndNaming, secondBody, Blank, Roomy};
 ghost use Rattle.reader.specs.Words.{word};
@@ -40,11 +40,18 @@ fn refused(refusal: usize, file: usize) -> Answer
 }
 
 // The records and the roots of an obligation; `none` is the empty second file.
-fn obligation_body(obligation: &[u8], none: &[u8], m: usize, table: &mut [u16]) -> Answer
-    requires { ⌜ (m < length (now table)) × Blank (now table) ⌝ }
+fn obligation_body(
+    obligation: &[u8],
+    none: &[u8],
+    m: usize,
+    numbers: &[usize],
+    seen: &mut [usize],
+    table: &mut [u16],
+) -> Answer
+    requires { ⌜ (m < length (now table)) × Blank (now table) × Numbered (word (now obligation) (now none) m) (now numbers) (length (now numbers)) ⌝ }
     ensures { λ r. ⌜ r ≡ recordsAndRoots (word (now (obligation .entry)) (now (none .entry)) m) m ⌝ }
 {
-    let r = faults::first_fault(obligation, none, m, 0, table, 1, m);
+    let r = faults::first_fault(obligation, none, m, 0, numbers, seen, table, 1, m);
     if r.refusal != 0 {
         return r;
     }
@@ -65,8 +72,18 @@ pub fn obligation_reading(obligation: &[u8]) -> Answer
         return refused(2, 1);
     }
     let m = words::word_of(obligation, 0, 1);
+    let mut numbers = [0usize; 1024];
+    let mut scratch = [0usize; 6144];
+    number_all(obligation, &obligation[0..0], m, &mut numbers, &mut scratch);
     let mut table = [0u16; 1024];
-    obligation_body(obligation, &obligation[0..0], m, &mut table)
+    obligation_body(
+        obligation,
+        &obligation[0..0],
+        m,
+        &numbers,
+        &mut scratch,
+        &mut table,
+    )
 }
 
 // The root of a second file, and the naming of its rule nodes.
@@ -95,16 +112,28 @@ fn second_body(
     second: &[u8],
     m: usize,
     mode: u8,
+    numbers: &[usize],
+    seen: &mut [usize],
     table: &mut [u16],
     named: &mut [u8],
     passed: &mut [u8],
 ) -> Answer
-    requires { ⌜ (0 < mode) × (m + countOf (now second) < length (now table)) × (m + countOf (now second) < length (now named)) × (m + countOf (now second) < length (now passed)) × Blank (now table) × Cleared (now named) × Cleared (now passed) ⌝ }
+    requires { ⌜ (0 < mode) × (m + countOf (now second) < length (now table)) × (m + countOf (now second) < length (now named)) × (m + countOf (now second) < length (now passed)) × Blank (now table) × Cleared (now named) × Cleared (now passed) × Numbered (word (now obligation) (now second) m) (now numbers) (length (now numbers)) ⌝ }
     ensures { λ r. ⌜ r ≡ secondBody mode (word (now (obligation .entry)) (now (second .entry)) m) m (countOf (now (second .entry))) (rootOf (now (second .entry))) ⌝ }
 {
     let last = m + words::word_of(second, 0, 1);
     faults::weigh_all(obligation, second, m, table, m);
-    let r = faults::first_fault(obligation, second, m, mode, table, m + 1, last);
+    let r = faults::first_fault(
+        obligation,
+        second,
+        m,
+        mode,
+        numbers,
+        seen,
+        table,
+        m + 1,
+        last,
+    );
     if r.refusal != 0 {
         return r;
     }
@@ -117,11 +146,13 @@ fn second_reading(
     second: &[u8],
     m: usize,
     mode: u8,
+    numbers: &[usize],
+    seen: &mut [usize],
     table: &mut [u16],
     named: &mut [u8],
     passed: &mut [u8],
 ) -> Answer
-    requires { ⌜ (0 < mode) × (m ≡ countOf (now obligation)) × (m < 1024) × Roomy mode (now table) (now named) (now passed) × Blank (now table) × Cleared (now named) × Cleared (now passed) ⌝ }
+    requires { ⌜ (0 < mode) × (m ≡ countOf (now obligation)) × (m < 1024) × Roomy mode (now table) (now named) (now passed) × Blank (now table) × Cleared (now named) × Cleared (now passed) × Numbered (word (now obligation) (now second) m) (now numbers) (length (now numbers)) ⌝ }
     ensures { λ r. ⌜ r ≡ secondReading mode (now (obligation .entry)) (now (second .entry)) ⌝ }
 {
     if !headers::length_fits(mode, second) {
@@ -130,7 +161,17 @@ fn second_reading(
     if !headers::counts_fit(obligation, second) {
         return refused(2, 2);
     }
-    second_body(obligation, second, m, mode, table, named, passed)
+    second_body(
+        obligation,
+        second,
+        m,
+        mode,
+        numbers,
+        seen,
+        table,
+        named,
+        passed,
+    )
 }
 
 // Places 1 to 12 of an obligation and a proof.
@@ -142,13 +183,26 @@ pub fn read_proof(obligation: &[u8], proof: &[u8]) -> Answer
         return r;
     }
     let m = words::word_of(obligation, 0, 1);
+    let mut numbers = [0usize; 4096];
+    let mut scratch = [0usize; 12288];
+    number_all(obligation, proof, m, &mut numbers, &mut scratch);
     let mut table = [0u16; 4096];
     let mut named = [0u8; 4096];
     let mut passed = [0u8; 4096];
-    second_reading(obligation, proof, m, 1, &mut table, &mut named, &mut passed)
+    second_reading(
+        obligation,
+        proof,
+        m,
+        1,
+        &numbers,
+        &mut scratch,
+        &mut table,
+        &mut named,
+        &mut passed,
+    )
 }
 
-// Places 1 to 12 of an obligation and a derivation.
+// Places 1 to 12 of an obligation and a derivation, whose records are not typed: no number is wanted.
 pub fn read_derivation(obligation: &[u8], derivation: &[u8]) -> Answer
     ensures { λ r. ⌜ r ≡ reading 2 (now (obligation .entry)) (now (derivation .entry)) ⌝ }
 {
@@ -157,6 +211,8 @@ pub fn read_derivation(obligation: &[u8], derivation: &[u8]) -> Answer
         return r;
     }
     let m = words::word_of(obligation, 0, 1);
+    let numbers = [0usize; 1];
+    let mut scratch = [0usize; 1];
     let mut table = [0u16; 201024];
     let mut named = [0u8; 201024];
     let mut passed = [0u8; 201024];
@@ -165,6 +221,8 @@ pub fn read_derivation(obligation: &[u8], derivation: &[u8]) -> Answer
         derivation,
         m,
         2,
+        &numbers,
+        &mut scratch,
         &mut table,
         &mut named,
         &mut passed,

@@ -4,11 +4,12 @@ use crate::references;
 use crate::weights;
 use reader::Answer;
 ghost use mathlib.Core.Path.{_≡_};
-ghost use Prim.Native.Nat.{_+_, _-_, _<_, _≤_};
+ghost use Prim.Native.Nat.{_+_, _-_, _<_};
 ghost use lib.ListN.{length};
 ghost use Rattle.reader.specs.Words.{word};
 ghost use Rattle.reader.specs.Trees.{tree};
 ghost use Rattle.reader.specs.Weight.{weight};
+ghost use Rattle.equality.specs.Least.{Numbered};
 ghost use Rattle.reader.specs.Answers.{firstFault};
 ghost use Rattle.reader.specs.Records.{chainsFit, typingFits, wordsFault, contentFault, recordFault};
 ghost use Rattle.records.specs.Weights.{capped, Filled, fileOf};
@@ -24,13 +25,22 @@ fn chains_fit(obligation: &[u8], second: &[u8], m: usize, i: usize) -> bool
 }
 
 // Is record i typed as its kind asks, where the file of kind `mode` is typed?
-fn typing_fits(obligation: &[u8], second: &[u8], m: usize, mode: u8, i: usize) -> bool
+fn typing_fits(
+    obligation: &[u8],
+    second: &[u8],
+    m: usize,
+    mode: u8,
+    numbers: &[usize],
+    seen: &mut [usize],
+    i: usize,
+) -> bool
+    requires { ⌜ Numbered (word (now obligation) (now second) m) (now numbers) (length (now numbers)) ⌝ }
     ensures { λ r. ⌜ r ≡ typingFits mode (word (now (obligation .entry)) (now (second .entry)) m) i ⌝ }
 {
     if mode == 2 {
         return true;
     }
-    typing::records::is_typed(obligation, second, m, i)
+    typing::records::is_typed(obligation, second, m, numbers, seen, i)
 }
 
 // Refusals 3 to 6 of record i, 0 for none.
@@ -53,8 +63,17 @@ fn words_fault(obligation: &[u8], second: &[u8], m: usize, mode: u8, i: usize) -
 }
 
 // Refusals 7 to 10 of record i, whose weight is w, 0 for none.
-fn content_fault(obligation: &[u8], second: &[u8], m: usize, mode: u8, i: usize, w: usize) -> usize
-    requires { ⌜ w ≡ capped (weight (tree (word (now obligation) (now second) m) i)) ⌝ }
+fn content_fault(
+    obligation: &[u8],
+    second: &[u8],
+    m: usize,
+    mode: u8,
+    numbers: &[usize],
+    seen: &mut [usize],
+    i: usize,
+    w: usize,
+) -> usize
+    requires { ⌜ (w ≡ capped (weight (tree (word (now obligation) (now second) m) i))) × Numbered (word (now obligation) (now second) m) (now numbers) (length (now numbers)) ⌝ }
     ensures { λ r. ⌜ r ≡ contentFault mode (word (now (obligation .entry)) (now (second .entry)) m) i ⌝ }
 {
     if !weights::weight_fits(obligation, second, m, mode, i, w) {
@@ -66,22 +85,31 @@ fn content_fault(obligation: &[u8], second: &[u8], m: usize, mode: u8, i: usize,
     if !names::name_is_free(obligation, second, m, i) {
         return 9;
     }
-    if !typing_fits(obligation, second, m, mode, i) {
+    if !typing_fits(obligation, second, m, mode, numbers, seen, i) {
         return 10;
     }
     0
 }
 
 // The refusal of record i of a file of kind `mode`, 0 for none.
-fn record_fault(obligation: &[u8], second: &[u8], m: usize, mode: u8, i: usize, w: usize) -> usize
-    requires { ⌜ w ≡ capped (weight (tree (word (now obligation) (now second) m) i)) ⌝ }
+fn record_fault(
+    obligation: &[u8],
+    second: &[u8],
+    m: usize,
+    mode: u8,
+    numbers: &[usize],
+    seen: &mut [usize],
+    i: usize,
+    w: usize,
+) -> usize
+    requires { ⌜ (w ≡ capped (weight (tree (word (now obligation) (now second) m) i))) × Numbered (word (now obligation) (now second) m) (now numbers) (length (now numbers)) ⌝ }
     ensures { λ r. ⌜ r ≡ recordFault mode (word (now (obligation .entry)) (now (second .entry)) m) i ⌝ }
 {
     let why = words_fault(obligation, second, m, mode, i);
     if why != 0 {
         return why;
     }
-    content_fault(obligation, second, m, mode, i, w)
+    content_fault(obligation, second, m, mode, numbers, seen, i, w)
 }
 
 // Fills the table with the weights of records 1 to last.
@@ -97,24 +125,27 @@ pub fn weigh_all(obligation: &[u8], second: &[u8], m: usize, table: &mut [u16], 
     }
 }
 
-// The first record from `first` to `last` with a refusal, in file 1 for an obligation (mode 0), else 2. The table has the weights below `first`.
+// The first record from `first` to `last` with a refusal, in file 1 for an obligation (mode 0), else 2. The table has the weights
+// below `first`; `seen` is scratch.
 pub fn first_fault(
     obligation: &[u8],
     second: &[u8],
     m: usize,
     mode: u8,
+    numbers: &[usize],
+    seen: &mut [usize],
     table: &mut [u16],
     first: usize,
     last: usize,
 ) -> Answer
-    requires { ⌜ (0 < first) × (last < length (now table)) × Filled (word (now obligation) (now second) m) (now table) first ⌝ }
+    requires { ⌜ (0 < first) × (last < length (now table)) × Filled (word (now obligation) (now second) m) (now table) first × Numbered (word (now obligation) (now second) m) (now numbers) (length (now numbers)) ⌝ }
     ensures { λ r. ⌜ r ≡ firstFault (recordFault mode (word (now (obligation .entry)) (now (second .entry)) m)) (fileOf mode) (last + 1 - first) first ⌝ }
 {
     let file = file_of(mode);
     let mut i = first;
     while i <= last {
         let w = weights::weigh(obligation, second, m, table, i);
-        let why = record_fault(obligation, second, m, mode, i, w);
+        let why = record_fault(obligation, second, m, mode, numbers, seen, i, w);
         if why != 0 {
             return Answer {
                 refusal: why,

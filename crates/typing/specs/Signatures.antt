@@ -1,8 +1,8 @@
 -- A table of records whose type variables are found to be below a number.
 use Prim.Native.Nat.{ℕ, _<_}
-use mathlib.Core.Path.{_≡_, refl, sym}
+use mathlib.Core.Path.{_≡_, sym}
 use mathlib.Core.List.{List}
-use mathlib.Core.Bool.{Bool, true}
+use mathlib.Core.Bool.{true}
 use lib.ListN.{getD, set}
 use native.Mathlib.Omega.{arith}
 use Rattle.reader.specs.Words.{Reader}

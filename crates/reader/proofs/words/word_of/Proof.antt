@@ -1,5 +1,4 @@
 use borrow.Author.Needs.{needs}
-use native.Mathlib.Omega.{arith}
 use mathlib.Core.Path.{sym}
 use Rattle.reader.specs.Words.{wordFrom}
 use Rattle.reader.specs.WordLaws.{word-is, word-none}

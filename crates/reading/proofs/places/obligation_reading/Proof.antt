@@ -20,15 +20,31 @@ obligation-reading-spec = tie.close (tie.spec
     (λ c. search obligation-header)
     -- word-of-requires: if2; 1 header-fits; 2 if1; 3 length-fits; 5 args
     (λ c κs. search needs)
-    -- sub-obligation-body: word-of; 1 if2; 2 header-fits; 3 if1; 4 length-fits; 6 args
+    -- sub-number-all: word-of; 1 if2; 2 header-fits; 3 if1; 4 length-fits; 6 args
     (λ c. search needs)
-    -- part-obligation-body-start: word-of; 1 if2; 2 header-fits; 3 if1; 4 length-fits; 6 args
+    -- part-number-all-start: word-of; 1 if2; 2 header-fits; 3 if1; 4 length-fits; 6 args
     (λ c. search needs)
-    -- part-obligation-body-end: word-of; 1 if2; 2 header-fits; 3 if1; 4 length-fits; 6 args
+    -- part-number-all-end: word-of; 1 if2; 2 header-fits; 3 if1; 4 length-fits; 6 args
     (λ c. search needs)
-    -- slice-aggregate-obligation-body: table; 1 obligation-body-arg; 2 word-of; 3 if2; 4 header-fits; 5 if1; 6 length-fits; 8 args
+    -- slice-aggregate-number-all: numbers; 1 number-all-arg; 2 word-of; 3 if2; 4 header-fits; 5 if1; 6 length-fits; 8 args
     (λ c. search needs)
-    -- obligation-body-requires: table; 1 obligation-body-arg; 2 word-of; 3 if2; 4 header-fits; 5 if1; 6 length-fits; 8 args
-    (λ c κs. (obligation-small _ _ (c .before .before .before .before .before .before .length-fits .ensures) (c .before .before .before .before .before .if1 .left) _ (c .before .before .before .before .header-fits .ensures) (c .before .before .before .if2 .left) _ (c .before .before .word-of .ensures), record { first = refl }))
-    -- returns-3: table2; 1 obligation-body; 2 table; 3 obligation-body-arg; 4 word-of; 5 if2; 6 header-fits; 7 if1; 8 length-fits; 10 args
-    (λ c. obligation-rest _ _ (c .before .before .before .before .before .before .before .before .length-fits .ensures) (c .before .before .before .before .before .before .before .if1 .left) _ (c .before .before .before .before .before .before .header-fits .ensures) (c .before .before .before .before .before .if2 .left) _ (c .before .before .before .before .word-of .ensures) _ (c .before .obligation-body .ensures)))
+    -- slice-aggregate-number-all-2: scratch; 1 numbers; 2 number-all-arg; 3 word-of; 4 if2; 5 header-fits; 6 if1; 7 length-fits; 9 args
+    (λ c. search needs)
+    -- number-all-requires: scratch; 1 numbers; 2 number-all-arg; 3 word-of; 4 if2; 5 header-fits; 6 if1; 7 length-fits; 9 args
+    (λ c κs. search needs)
+    -- sub-obligation-body: scratch2; 1 numbers2; 2 number-all; 3 scratch; 4 numbers; 5 number-all-arg; 6 word-of; 7 if2; 8 header-fits; 9 if1; 10 length-fits; 12 args
+    (λ c. search needs)
+    -- part-obligation-body-start: scratch2; 1 numbers2; 2 number-all; 3 scratch; 4 numbers; 5 number-all-arg; 6 word-of; 7 if2; 8 header-fits; 9 if1; 10 length-fits; 12 args
+    (λ c. search needs)
+    -- part-obligation-body-end: scratch2; 1 numbers2; 2 number-all; 3 scratch; 4 numbers; 5 number-all-arg; 6 word-of; 7 if2; 8 header-fits; 9 if1; 10 length-fits; 12 args
+    (λ c. search needs)
+    -- slice-aggregate-obligation-body: numbers3; 1 obligation-body-arg; 2 scratch2; 3 numbers2; 4 number-all; 5 scratch; 6 numbers; 7 number-all-arg; 8 word-of; 9 if2; 10 header-fits; 11 if1; 12 length-fits; 14 args
+    (λ c. search needs)
+    -- slice-aggregate-obligation-body-2: scratch3; 1 numbers3; 2 obligation-body-arg; 3 scratch2; 4 numbers2; 5 number-all; 6 scratch; 7 numbers; 8 number-all-arg; 9 word-of; 10 if2; 11 header-fits; 12 if1; 13 length-fits; 15 args
+    (λ c. search needs)
+    -- slice-aggregate-obligation-body-3: table; 1 scratch3; 2 numbers3; 3 obligation-body-arg; 4 scratch2; 5 numbers2; 6 number-all; 7 scratch; 8 numbers; 9 number-all-arg; 10 word-of; 11 if2; 12 header-fits; 13 if1; 14 length-fits; 16 args
+    (λ c. search needs)
+    -- obligation-body-requires: table; 1 scratch3; 2 numbers3; 3 obligation-body-arg; 4 scratch2; 5 numbers2; 6 number-all; 7 scratch; 8 numbers; 9 number-all-arg; 10 word-of; 11 if2; 12 header-fits; 13 if1; 14 length-fits; 16 args
+    (λ c κs. (obligation-small _ _ (c .before .before .before .before .before .before .before .before .before .before .before .before .before .before .length-fits .ensures) (c .before .before .before .before .before .before .before .before .before .before .before .before .before .if1 .left) _ (c .before .before .before .before .before .before .before .before .before .before .before .before .header-fits .ensures) (c .before .before .before .before .before .before .before .before .before .before .before .if2 .left) _ (c .before .before .before .before .before .before .before .before .before .before .word-of .ensures), record { first = refl }, c .before .before .before .before .before .before .number-all .ensures))
+    -- returns-3: table2; 1 scratch4; 2 obligation-body; 3 table; 4 scratch3; 5 numbers3; 6 obligation-body-arg; 7 scratch2; 8 numbers2; 9 number-all; 10 scratch; 11 numbers; 12 number-all-arg; 13 word-of; 14 if2; 15 header-fits; 16 if1; 17 length-fits; 19 args
+    (λ c. obligation-rest _ _ (c .before .before .before .before .before .before .before .before .before .before .before .before .before .before .before .before .before .length-fits .ensures) (c .before .before .before .before .before .before .before .before .before .before .before .before .before .before .before .before .if1 .left) _ (c .before .before .before .before .before .before .before .before .before .before .before .before .before .before .before .header-fits .ensures) (c .before .before .before .before .before .before .before .before .before .before .before .before .before .before .if2 .left) _ (c .before .before .before .before .before .before .before .before .before .before .before .before .before .word-of .ensures) _ (c .before .before .obligation-body .ensures)))

@@ -15,13 +15,23 @@ read-proof-spec = tie.close (tie.spec
     (λ c. search answers)
     -- word-of-requires: if1; 1 struct-known; 2 obligation-reading; 5 args
     (λ c κs. search needs)
-    -- slice-aggregate-second-reading: table; 1 word-of; 2 if1; 3 struct-known; 4 obligation-reading; 7 args
+    -- slice-aggregate-number-all: numbers; 1 word-of; 2 if1; 3 struct-known; 4 obligation-reading; 7 args
     (λ c. search needs)
-    -- slice-aggregate-second-reading-2: named; 1 table; 2 word-of; 3 if1; 4 struct-known; 5 obligation-reading; 8 args
+    -- slice-aggregate-number-all-2: scratch; 1 numbers; 2 word-of; 3 if1; 4 struct-known; 5 obligation-reading; 8 args
     (λ c. search needs)
-    -- slice-aggregate-second-reading-3: passed; 1 named; 2 table; 3 word-of; 4 if1; 5 struct-known; 6 obligation-reading; 9 args
+    -- number-all-requires: scratch; 1 numbers; 2 word-of; 3 if1; 4 struct-known; 5 obligation-reading; 8 args
+    (λ c κs. search needs)
+    -- slice-aggregate-second-reading: numbers3; 1 scratch2; 2 numbers2; 3 number-all; 4 scratch; 5 numbers; 6 word-of; 7 if1; 8 struct-known; 9 obligation-reading; 12 args
     (λ c. search needs)
-    -- second-reading-requires: passed; 1 named; 2 table; 3 word-of; 4 if1; 5 struct-known; 6 obligation-reading; 9 args
-    (λ c κs. (omega arith, c .before .before .before .word-of .ensures, passed-small _ _ _ (c .before .before .before .before .before .before .obligation-reading .ensures) (c .before .before .before .before .if1 .left) (c .before .before .before .word-of .ensures), room-for-proof, zeros-blank 4096, zeros-cleared 4096, zeros-cleared 4096))
-    -- returns-2: passed2; 1 named2; 2 table2; 3 second-reading; 4 passed; 5 named; 6 table; 7 word-of; 8 if1; 9 struct-known; 10 obligation-reading; 13 args
+    -- slice-aggregate-second-reading-2: scratch3; 1 numbers3; 2 scratch2; 3 numbers2; 4 number-all; 5 scratch; 6 numbers; 7 word-of; 8 if1; 9 struct-known; 10 obligation-reading; 13 args
+    (λ c. search needs)
+    -- slice-aggregate-second-reading-3: table; 1 scratch3; 2 numbers3; 3 scratch2; 4 numbers2; 5 number-all; 6 scratch; 7 numbers; 8 word-of; 9 if1; 10 struct-known; 11 obligation-reading; 14 args
+    (λ c. search needs)
+    -- slice-aggregate-second-reading-4: named; 1 table; 2 scratch3; 3 numbers3; 4 scratch2; 5 numbers2; 6 number-all; 7 scratch; 8 numbers; 9 word-of; 10 if1; 11 struct-known; 12 obligation-reading; 15 args
+    (λ c. search needs)
+    -- slice-aggregate-second-reading-5: passed; 1 named; 2 table; 3 scratch3; 4 numbers3; 5 scratch2; 6 numbers2; 7 number-all; 8 scratch; 9 numbers; 10 word-of; 11 if1; 12 struct-known; 13 obligation-reading; 16 args
+    (λ c. search needs)
+    -- second-reading-requires: passed; 1 named; 2 table; 3 scratch3; 4 numbers3; 5 scratch2; 6 numbers2; 7 number-all; 8 scratch; 9 numbers; 10 word-of; 11 if1; 12 struct-known; 13 obligation-reading; 16 args
+    (λ c κs. (omega arith, c .before .before .before .before .before .before .before .before .before .before .word-of .ensures, passed-small _ _ _ (c .before .before .before .before .before .before .before .before .before .before .before .before .before .obligation-reading .ensures) (c .before .before .before .before .before .before .before .before .before .before .before .if1 .left) (c .before .before .before .before .before .before .before .before .before .before .word-of .ensures), room-for-proof, zeros-blank 4096, zeros-cleared 4096, zeros-cleared 4096, c .before .before .before .before .before .before .before .number-all .ensures))
+    -- returns-2: passed2; 1 named2; 2 table2; 3 scratch4; 4 second-reading; 5 passed; 6 named; 7 table; 8 scratch3; 9 numbers3; 10 scratch2; 11 numbers2; 12 number-all; 13 scratch; 14 numbers; 15 word-of; 16 if1; 17 struct-known; 18 obligation-reading; 21 args
     (λ c. search answers))
