@@ -1,0 +1,12 @@
+use borrow.Author.Needs.{needs}
+use Rattle.desk.proofs.put_answer.Statement.{statement}
+use Rattle.desk.proofs.put_answer.Tie as tie
+
+pub put-answer-spec : {M : Type 1} → statement M
+put-answer-spec = tie.close (tie.spec
+    -- read-proof-requires: put-line-arg; 3 args
+    (λ c κs. search needs)
+    -- put-line-requires: read-proof; 1 put-line-arg; 4 args
+    (λ c κs. search needs)
+    -- returns: put-line; 1 read-proof; 2 put-line-arg; 5 args
+    (λ c. rw (← c .before .read-proof .ensures) (c .put-line .ensures)))

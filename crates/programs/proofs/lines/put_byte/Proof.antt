@@ -1,0 +1,16 @@
+use borrow.Author.Needs.{needs}
+use native.Mathlib.Omega.{arith}
+use Rattle.programs.specs.LineLaws.{put-before}
+use Rattle.programs.proofs.lines.put_byte.Statement.{statement}
+use Rattle.programs.proofs.lines.put_byte.Tie as tie
+
+pub put-byte-spec : {M : Type 1} → statement M
+put-byte-spec = tie.close (tie.spec
+    -- sub-at: 0 args
+    (λ c. search needs)
+    -- slice-write-out: 0 args
+    (λ c. search needs)
+    -- same-length: 0 args
+    (λ c. search needs)
+    -- returns: 0 args
+    (λ c. (omega arith, put-before _ _ _ (c .pre .0) (c .pre .1))))

@@ -1,0 +1,25 @@
+use borrow.Author.Needs.{needs}
+use native.Mathlib.Omega.{arith}
+use mathlib.Core.Path.{_≡_}
+use mathlib.Core.List.{[]}
+use lib.ListN.{drop, drop-of-length-le}
+use Rattle.programs.specs.Lines.{line}
+use Rattle.programs.proofs.lines.put_line.Statement.{statement}
+use Rattle.programs.proofs.lines.put_line.Tie as tie
+
+pub put-line-spec : {M : Type 1} → statement M
+unfolding line
+put-line-spec = tie.close (tie.spec
+    -- put-number-requires: put-number-arg; 1 args
+    (λ c κs. search needs)
+    -- put-number-requires-2: put-number-arg2; 1 put-number; 2 put-number-arg; 3 args
+    (λ c κs. search needs)
+    -- put-number-requires-3
+    (λ c κs. search needs)
+    -- put-number-requires-4
+    (λ c κs. search needs)
+    -- returns: put-number4; 1 put-number-arg4; 2 put-number3; 3 put-number-arg3; 4 put-number2; 5 put-number-arg2; 6 put-number; 7 put-number-arg; 8 args
+    (λ c.
+    let out = c .before .before .before .before .before .before .before .before .args .out .now in
+    let none : drop 84 out ≡ [] = drop-of-length-le out {i = 84} (omega arith) in
+    record { whole = omega arith; inside = omega arith; text = cc }))

@@ -1,0 +1,29 @@
+-- The line of an answer: its four numbers in decimal, single spaces between, a newline at its end.
+use Prim.Native.Nat.{ℕ, _+_, _/_, _%_, _<_}
+use mathlib.Core.Path.{_≡_}
+use mathlib.Core.List.{List, [], _∷_, _++_}
+use lib.ListN.{length, drop}
+use Rattle.reader.specs.declared.Answer.{Answer}
+use Rattle.reader.specs.Tests.{ifLt}
+use Rattle.reader.specs.Down.{down}
+
+-- the byte of a digit below 10
+abbrev pub digit : ℕ → ℕ
+digit d = 48 + d
+
+-- a number of one digit is that digit; any other is the number without its last digit, and then that digit
+unfoldable pub decimalStep : (ℕ → List ℕ) → ℕ → List ℕ
+decimalStep shorter n = ifLt n 10 (digit n ∷ []) (shorter (n / 10) ++ (digit (n % 10) ∷ []))
+
+-- a number in decimal, as bytes, no zero before it
+unfoldable pub decimal : ℕ → List ℕ
+decimal = down (digit 0 ∷ []) decimalStep
+
+unfoldable pub line : Answer → List ℕ
+line a = decimal (a .refusal) ++ (32 ∷ decimal (a .file) ++ (32 ∷ decimal (a .at) ++ (32 ∷ decimal (a .nodes) ++ (10 ∷ []))))
+
+-- an area of 84 bytes whose last ones, from place `begin` on, are the line: four numbers of at most 20 digits, a byte after each
+pub record EndsIn (a : Answer) (out : List ℕ) (begin : ℕ) : Type 0 where
+  pub whole : 84 ≡ length out
+  pub inside : begin < 84
+  pub text : drop begin out ≡ line a

@@ -1,0 +1,50 @@
+// The line of an answer, written from its end: what is written stands before what was written.
+use reader::Answer;
+ghost use mathlib.Core.Path.{_≡_};
+ghost use mathlib.Core.List.{_∷_, _++_};
+ghost use Prim.Native.Nat.{_+_, _≤_, _<_};
+ghost use lib.ListN.{length, drop};
+ghost use Rattle.programs.specs.Lines.{decimal, EndsIn};
+
+// Writes a byte before place `end`; its place.
+fn put_byte(out: &mut [u8], end: usize, byte: u8) -> usize
+    requires { ⌜ (0 < end) × (end ≤ length (now out)) ⌝ }
+    ensures { λ r. ⌜ (r + 1 ≡ end) × (drop r (now (out .exit)) ≡ byte ∷ drop end (now (out .entry))) ⌝ }
+{
+    let at = end - 1;
+    out[at] = byte;
+    at
+}
+
+// Writes a number in decimal before place `end`; where it begins.
+fn put_decimal(out: &mut [u8], end: usize, n: usize) -> usize
+    requires { ⌜ (20 ≤ end) × (end ≤ length (now out)) ⌝ }
+    ensures { λ r. ⌜ (r < end) × (end ≤ r + 20) × (drop r (now (out .exit)) ≡ decimal n ++ drop end (now (out .entry))) ⌝ }
+{
+    let mut begin = end;
+    let mut rest = n;
+    while 10 <= rest {
+        begin = put_byte(out, begin, b'0' + (rest % 10) as u8);
+        rest = rest / 10;
+    }
+    put_byte(out, begin, b'0' + rest as u8)
+}
+
+// Writes a number in decimal and one byte more before place `end`; where the number begins.
+fn put_number(out: &mut [u8], end: usize, n: usize, byte: u8) -> usize
+    requires { ⌜ (21 ≤ end) × (end ≤ length (now out)) ⌝ }
+    ensures { λ r. ⌜ (r < end) × (end ≤ r + 21) × (drop r (now (out .exit)) ≡ decimal n ++ (byte ∷ drop end (now (out .entry)))) ⌝ }
+{
+    let end = put_byte(out, end, byte);
+    put_decimal(out, end, n)
+}
+
+// Writes the line of an answer at the end of the area; where it begins.
+pub fn put_line(out: &mut [u8; 84], a: Answer) -> usize
+    ensures { λ r. ⌜ EndsIn a (now (out .exit)) r ⌝ }
+{
+    let nodes = put_number(out, 84, a.nodes, b'\n');
+    let at = put_number(out, nodes, a.at, b' ');
+    let file = put_number(out, at, a.file, b' ');
+    put_number(out, file, a.refusal, b' ')
+}
