@@ -1,7 +1,8 @@
 pub mod Notions
 pub mod Derives
-pub mod Derivable
 pub mod TestLaws
+pub mod Symbols
+pub mod Derivable
 pub mod Plain
 pub mod RowLaws
 pub mod Cases

@@ -2,7 +2,9 @@
 use Prim.Native.Nat.{ℕ, _+_}
 use mathlib.Core.Path.{_≡_}
 use mathlib.Core.List.{List, _∷_}
-use Rattle.reader.specs.Kinds.{class}
+use mathlib.Core.Bool.{true}
+use Rattle.reader.specs.Words.{Reader}
+use Rattle.reader.specs.Kinds.{class, isSymbol}
 use Rattle.reader.specs.Trees.{Tree, leaf, node, kindOf}
 use Rattle.reader.specs.Variables.{binders, replaced}
 
@@ -32,12 +34,20 @@ Closed t = (i : ℕ) → Free i t → ⊥
 abbrev pub OpenInZero : Tree → Type 0
 OpenInZero t = (i : ℕ) → Free i t → i ≡ 0
 
+-- a node of kind k and atom a stands in the tree
+pub data Stands (k a : ℕ) : Tree → Type 0 where
+  itself : {l b : ℕ} {x y z : Tree} → l ≡ k → b ≡ a → Stands k a (node l b x y z)
+  inFirst : {l b : ℕ} {x y z : Tree} → Stands k a x → Stands k a (node l b x y z)
+  inSecond : {l b : ℕ} {x y z : Tree} → Stands k a y → Stands k a (node l b x y z)
+  inThird : {l b : ℕ} {x y z : Tree} → Stands k a z → Stands k a (node l b x y z)
+
 -- the constant c stands in the tree
-pub data Occurs (c : ℕ) : Tree → Type 0 where
-  itself : {k a : ℕ} {x y z : Tree} → k ≡ 7 → a ≡ c → Occurs c (node k a x y z)
-  inFirst : {k a : ℕ} {x y z : Tree} → Occurs c x → Occurs c (node k a x y z)
-  inSecond : {k a : ℕ} {x y z : Tree} → Occurs c y → Occurs c (node k a x y z)
-  inThird : {k a : ℕ} {x y z : Tree} → Occurs c z → Occurs c (node k a x y z)
+abbrev pub Occurs : ℕ → Tree → Type 0
+Occurs c t = Stands 7 c t
+
+-- "over the symbols of obligation and derivation": each symbol in the tree is a record of the files, of its kind
+abbrev pub Over : Reader → Tree → Type 0
+Over rd t = (k c : ℕ) → isSymbol k ≡ true → Stands k c t → rd c 0 ≡ k
 
 -- "c is in neither Γ nor the goal"
 pub record Fresh (c : ℕ) (Γ : List Tree) (P : Tree) : Type 0 where
