@@ -9,3 +9,5 @@ pub mod Cases
 pub mod Sound
 pub mod Complete
 pub mod Meaning
+pub mod Intro
+pub mod EraseLaws
