@@ -1,7 +1,6 @@
--- Types removed: what becomes of the signs, of replacement, of free variables and constants, of classes, and of the types put in for type variables.
+-- Types removed: what becomes of the signs, of replacement, of free variables and constants, and of classes.
 use Prim.Native.Nat.{ℕ, _+_, _<_}
 use mathlib.Core.Path.{_≡_, refl, sym, ap, subst, _∙_}
-use mathlib.Core.List.{List}
 use mathlib.Core.Bool.{Bool, true, false, false≢true}
 use lib.Dec.{eqb}
 use native.Mathlib.Omega.{arith}
@@ -9,7 +8,7 @@ use borrow.Author.Tests.{eqb-true, eqb-false, eq-eqb, ne-eqb}
 use Rattle.reader.specs.Tests.{ifEq, ifLt, ifTrue}
 use Rattle.reader.specs.Kinds.{class, role}
 use Rattle.reader.specs.Trees.{Tree, leaf, node, kindOf, ⊥ᵗ, ⊤ᵗ, _∧ᵗ_, _⇒ᵗ_, ¬ᵗ_, ∀ᵗ, _=ᵗ_}
-use Rattle.reader.specs.Variables.{binders, isIndex, replaced, isBound, indicesBelow, isConstant, occurs, instance}
+use Rattle.reader.specs.Variables.{binders, isIndex, replaced, isBound, indicesBelow, isConstant, occurs}
 use Rattle.derivation_rules.specs.Erase.{isType, untyped, bare, ⌊_⌋}
 use Rattle.derivation_meaning.specs.Notions.{Free, Closed, OpenInZero, Stands, Occurs, IsFormula, IsTerm, constantᵗ, allᵗ}
 use Rattle.derivation_meaning.specs.TestLaws.{below-free, in-occurs}
@@ -59,20 +58,20 @@ erase-for-all-types count P = refl
 
 -- The three ways of a node.
 module _ (k a : ℕ) (x y z : Tree) where
-  bare-true : k ≡ 15 → bare k a x y z ≡ ¬ᵗ ⊥ᵗ
+  pub bare-true : k ≡ 15 → bare k a x y z ≡ ¬ᵗ ⊥ᵗ
   unfolding bare ifEq
   bare-true e = simp (bare, ifEq, eq-eqb k 15 e)
 
-  bare-types : k ≡ 22 → bare k a x y z ≡ y
+  pub bare-types : k ≡ 22 → bare k a x y z ≡ y
   unfolding bare ifEq
   bare-types e = let other : k ≡ 15 → ⊥ = λ q. absurd (omega arith) in simp (bare, ifEq, ne-eqb k 15 other, eq-eqb k 22 e)
 
-  bare-node : (k ≡ 15 → ⊥) → (k ≡ 22 → ⊥) → bare k a x y z ≡ node k a (untyped k 1 x) (untyped k 2 y) (untyped k 3 z)
+  pub bare-node : (k ≡ 15 → ⊥) → (k ≡ 22 → ⊥) → bare k a x y z ≡ node k a (untyped k 1 x) (untyped k 2 y) (untyped k 3 z)
   unfolding bare ifEq
   bare-node p q = simp (bare, ifEq, ne-eqb k 15 p, ne-eqb k 22 q)
 
   -- a claim about a node, from the three
-  bare-cases : (C : Tree → Type 0) → (k ≡ 15 → C (¬ᵗ ⊥ᵗ)) → (k ≡ 22 → C y) →
+  pub bare-cases : (C : Tree → Type 0) → (k ≡ 15 → C (¬ᵗ ⊥ᵗ)) → (k ≡ 22 → C y) →
       ((k ≡ 15 → ⊥) → (k ≡ 22 → ⊥) → C (node k a (untyped k 1 x) (untyped k 2 y) (untyped k 3 z))) → C (bare k a x y z)
   bare-cases C f g h = go (eqb k 15) refl (eqb k 22) refl
     where
@@ -244,63 +243,3 @@ formula-erase t h = class-erase 5 t h (λ q. absurd (omega arith))
 
 pub term-erase : (t : Tree) → IsTerm t → IsTerm ⌊ t ⌋
 term-erase t h = class-erase 4 t h (λ q. absurd (omega arith))
-
--- Types put in for type variables are gone too, where type variables stand in types only.
-
-untyped-same : (k w : ℕ) (x y : Tree) → (isType k w ≡ false → x ≡ y) → untyped k w x ≡ untyped k w y
-unfolding untyped ifTrue
-untyped-same k w x y h = go (isType k w) refl
-  where
-    go : (b : Bool) → isType k w ≡ b → untyped k w x ≡ untyped k w y
-    go true e = simp (untyped, ifTrue, e)
-    go false e = simp (untyped, ifTrue, e) (h e)
-
-untyped-kept : (k w : ℕ) (t : Tree) → isType k w ≡ false → t ≡ untyped k w t
-unfolding untyped ifTrue
-untyped-kept k w t e = simp (untyped, ifTrue, e)
-
--- no type variable stands in the tree
-abbrev pub Typeless : Tree → Type 0
-Typeless t = (a : ℕ) → Stands 6 a t → ⊥
-
--- a node with the parts x, y, z; u, v, w are they without types, p, q, r with the types put in and then without types
-bare-instance : (k a : ℕ) (u v w p q r : Tree) → (Typeless u → p ≡ u) → (Typeless v → q ≡ v) → (Typeless w → r ≡ w) → Typeless (bare k a u v w) →
-    bare k a p q r ≡ bare k a u v w
-bare-instance k a u v w p q r first second third =
-    bare-cases k a u v w (λ t. Typeless t → bare k a p q r ≡ t) (λ e h. bare-true k a p q r e) (λ e h. bare-types k a p q r e ∙ second h) other
-  where
-    other : (k ≡ 15 → ⊥) → (k ≡ 22 → ⊥) → Typeless (node k a (untyped k 1 u) (untyped k 2 v) (untyped k 3 w)) →
-        bare k a p q r ≡ node k a (untyped k 1 u) (untyped k 2 v) (untyped k 3 w)
-    other m n h =
-        let one = untyped-same k 1 p u (λ e. first (λ b s. h b (Stands.inFirst (subst (Stands 6 b) (untyped-kept k 1 u e) s)))) in
-        let two = untyped-same k 2 q v (λ e. second (λ b s. h b (Stands.inSecond (subst (Stands 6 b) (untyped-kept k 2 v e) s)))) in
-        let three = untyped-same k 3 r w (λ e. third (λ b s. h b (Stands.inThird (subst (Stands 6 b) (untyped-kept k 3 w e) s)))) in
-        let here = bare-node k a p q r m n in
-        cc
-
-bare-variable : (k a : ℕ) (u v w : Tree) → k ≡ 6 → Typeless (bare k a u v w) → ⊥
-bare-variable k a u v w e =
-    bare-cases k a u v w (λ t. Typeless t → ⊥) (λ q h. absurd (omega arith)) (λ q h. absurd (omega arith)) (λ p q h. h a (Stands.itself e refl))
-
-instance-node : (types : List Tree) (k a : ℕ) (x y z : Tree) → (k ≡ 6 → ⊥) →
-    instance types (node k a x y z) ≡ node k a (instance types x) (instance types y) (instance types z)
-unfolding instance
-instance-node types k a x y z h = simp (instance, ne-eqb k 6 h)
-
-instance-step : (types : List Tree) (k a : ℕ) (x y z : Tree) → (Typeless ⌊ x ⌋ → ⌊ instance types x ⌋ ≡ ⌊ x ⌋) →
-    (Typeless ⌊ y ⌋ → ⌊ instance types y ⌋ ≡ ⌊ y ⌋) → (Typeless ⌊ z ⌋ → ⌊ instance types z ⌋ ≡ ⌊ z ⌋) →
-    Typeless (bare k a ⌊ x ⌋ ⌊ y ⌋ ⌊ z ⌋) → ⌊ instance types (node k a x y z) ⌋ ≡ bare k a ⌊ x ⌋ ⌊ y ⌋ ⌊ z ⌋
-unfolding ⌊_⌋
-instance-step types k a x y z first second third h = go (eqb k 6) refl
-  where
-    go : (b : Bool) → eqb k 6 ≡ b → ⌊ instance types (node k a x y z) ⌋ ≡ bare k a ⌊ x ⌋ ⌊ y ⌋ ⌊ z ⌋
-    go true e = absurd (bare-variable k a ⌊ x ⌋ ⌊ y ⌋ ⌊ z ⌋ (eqb-true k 6 e) h)
-    go false e =
-        ap (λ (u : Tree). ⌊ u ⌋) (instance-node types k a x y z (eqb-false k 6 e))
-        ∙ bare-instance k a ⌊ x ⌋ ⌊ y ⌋ ⌊ z ⌋ ⌊ instance types x ⌋ ⌊ instance types y ⌋ ⌊ instance types z ⌋ first second third h
-
-pub instance-erase : (types : List Tree) (t : Tree) → Typeless ⌊ t ⌋ → ⌊ instance types t ⌋ ≡ ⌊ t ⌋
-unfolding ⌊_⌋ instance
-instance-erase types leaf h = refl
-instance-erase types (node k a x y z) h =
-    instance-step types k a x y z (instance-erase types x) (instance-erase types y) (instance-erase types z) h

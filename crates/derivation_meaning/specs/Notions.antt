@@ -2,9 +2,7 @@
 use Prim.Native.Nat.{ℕ, _+_}
 use mathlib.Core.Path.{_≡_}
 use mathlib.Core.List.{List, _∷_}
-use mathlib.Core.Bool.{true}
-use Rattle.reader.specs.Words.{Reader}
-use Rattle.reader.specs.Kinds.{class, isSymbol}
+use Rattle.reader.specs.Kinds.{class}
 use Rattle.reader.specs.Trees.{Tree, leaf, node, kindOf}
 use Rattle.reader.specs.Variables.{binders, replaced}
 
@@ -44,10 +42,6 @@ pub data Stands (k a : ℕ) : Tree → Type 0 where
 -- the constant c stands in the tree
 abbrev pub Occurs : ℕ → Tree → Type 0
 Occurs c t = Stands 7 c t
-
--- "over the symbols of obligation and derivation": each symbol in the tree is a record of the files, of its kind
-abbrev pub Over : Reader → Tree → Type 0
-Over rd t = (k c : ℕ) → isSymbol k ≡ true → Stands k c t → rd c 0 ≡ k
 
 -- "c is in neither Γ nor the goal"
 pub record Fresh (c : ℕ) (Γ : List Tree) (P : Tree) : Type 0 where

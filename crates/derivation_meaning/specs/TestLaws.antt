@@ -76,7 +76,7 @@ module _ (d k a : ℕ) (x y z : Tree) (h : indicesBelow d (node k a x y z) ≡ t
   here-bound : isBound k a d ≡ true
   here-bound = both-parts _ _ (sym (below-both d k a x y z) ∙ h) .0
 
-  first-below : indicesBelow d x ≡ true
+  pub first-below : indicesBelow d x ≡ true
   first-below = both-parts _ _ (both-parts _ _ (sym (below-both d k a x y z) ∙ h) .1) .0
 
   second-below : indicesBelow (d + binders k) y ≡ true
