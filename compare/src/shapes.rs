@@ -127,6 +127,35 @@ impl Sheet {
         (0..times).fold(ty, |ty, _| self.w.push(PAIR_TYPE, ty, ty, 0))
     }
 
+    /// A type, nested as a set type so often.
+    fn nested_type(&mut self, ty: u32, times: u32) -> u32 {
+        (0..times).fold(ty, |ty, _| self.w.push(SET_TYPE, ty, 0, 0))
+    }
+
+    /// A pair type of the two types before, so often: its weight grows as the Fibonacci numbers do.
+    fn fibonacci_type(&mut self, ty: u32, times: u32) -> u32 {
+        let pair = (0..times).fold((ty, ty), |(x, y), _| (y, self.w.push(PAIR_TYPE, x, y, 0)));
+        pair.1
+    }
+
+    /// A function of one type parameter whose five types `grown` makes of the type variable, its own type as place 0,
+    /// applied up to the file's end to copies of these types with the given type put in.
+    fn applied(&mut self, grown: impl Fn(&mut Sheet, u32, u32) -> u32) {
+        let given = self.given;
+        let variable = self.w.push(TYPE_VARIABLE, 0, 0, 0);
+        let signature = [0, 1, 2, 3, 4].map(|place| grown(self, variable, place));
+        let copies = [0, 1, 2, 3, 4].map(|place| grown(self, given, place));
+        let types = self.w.chain(&signature);
+        let own = self.w.chain(&[copies[0], given]);
+        let arguments = [1, 2, 3, 4].map(|place| self.constant(copies[place]));
+        let arguments = self.w.chain(&arguments);
+        let name = self.w.name(b"f");
+        let f = self.w.push(FUNCTION, types, 1, name);
+        while self.is_before(self.end(1)) {
+            self.w.push(APPLICATION, f, own, arguments);
+        }
+    }
+
     /// A formula, doubled as a conjunction so often.
     fn doubled(&mut self, formula: u32, times: u32) -> u32 {
         (0..times).fold(formula, |f, _| self.w.push(AND, f, f, 0))
@@ -269,6 +298,77 @@ pub fn type_arguments(kind: Second) -> Shape {
         sheet.w.push(APPLICATION, f, own, arguments);
     }
     sheet.close("(b) application, 4 type arguments")
+}
+
+/// The same with five types that are a type parameter doubled up to the weight limit.
+pub fn doubled_parameters(kind: Second) -> Shape {
+    let mut sheet = Sheet::new(kind);
+    sheet.end_obligation();
+    sheet.applied(|sheet, ty, place| sheet.doubled_type(ty, if place == 0 { 10 } else { 11 }));
+    sheet.close("(b) application, 5 types of a doubled parameter")
+}
+
+/// The same with types that share two parts, in the way of the Fibonacci numbers.
+pub fn fibonacci_parameters(kind: Second) -> Shape {
+    let mut sheet = Sheet::new(kind);
+    sheet.end_obligation();
+    sheet.applied(|sheet, ty, _| sheet.fibonacci_type(ty, 15));
+    sheet.close("(b) application, 5 types of a Fibonacci parameter")
+}
+
+/// The same with long types: as many records in a signature, and as many applications of it, as a file has room for.
+pub fn nested_parameters(kind: Second) -> Shape {
+    let mut sheet = Sheet::new(kind);
+    sheet.end_obligation();
+    sheet.applied(|sheet, ty, _| sheet.nested_type(ty, 150));
+    sheet.close("(b) application, 5 types of a nested parameter")
+}
+
+/// Functions of five types at the weight limit.
+pub fn functions(kind: Second) -> Shape {
+    let mut sheet = Sheet::new(kind);
+    sheet.end_obligation();
+    let variable = sheet.w.push(TYPE_VARIABLE, 0, 0, 0);
+    let types = [0; 5].map(|_| sheet.doubled_type(variable, 11));
+    let types = sheet.w.chain(&types);
+    for number in 0..1_500 {
+        if !sheet.is_before(sheet.end(4)) {
+            break;
+        }
+        let name = sheet.w.name(format!("f{number}").as_bytes());
+        sheet.w.push(FUNCTION, types, 1, name);
+    }
+    sheet.close("(b) functions of 5 heavy types")
+}
+
+/// A type nested 1,400 deep, compared with a copy.
+pub fn deep_types(kind: Second) -> Shape {
+    let mut sheet = Sheet::new(kind);
+    sheet.end_obligation();
+    let given = sheet.given;
+    let variable = sheet.w.push(TYPE_VARIABLE, 0, 0, 0);
+    let wanted = sheet.nested_type(variable, 1_400);
+    let copy = sheet.nested_type(given, 1_400);
+    let types = sheet.w.chain(&[wanted]);
+    let own = sheet.w.chain(&[copy, given]);
+    let name = sheet.w.name(b"f");
+    let f = sheet.w.push(FUNCTION, types, 1, name);
+    while sheet.is_before(sheet.end(1)) {
+        sheet.w.push(APPLICATION, f, own, 0);
+    }
+    sheet.close("(b) application, a type nested 1,400 deep")
+}
+
+/// Type variables whose numbers, out of range, all fall into one bucket of the table of equal trees: the first is refused.
+pub fn one_bucket(kind: Second) -> Shape {
+    let mut sheet = Sheet::new(kind);
+    sheet.end_obligation();
+    let mut number = 0;
+    while sheet.is_before(sheet.end(1)) {
+        number += 1;
+        sheet.w.push(TYPE_VARIABLE, number << 20, 0, 0);
+    }
+    sheet.close("(g) type variables in one bucket")
 }
 
 /// Constants whose names share their first seven bytes; the last name records are shared.
@@ -479,7 +579,7 @@ pub fn heavy_hypotheses(kind: Second) -> Shape {
 
 /// All shapes that are measured for one kind of second file, with at most so many symbols.
 pub fn shapes(kind: Second, symbols: u32) -> Vec<Shape> {
-    let makers: [fn(Second) -> Shape; 14] = [
+    let makers: [fn(Second) -> Shape; 20] = [
         obligation,
         ordinary,
         equal_types,
@@ -487,6 +587,12 @@ pub fn shapes(kind: Second, symbols: u32) -> Vec<Shape> {
         unequal_types,
         applications,
         type_arguments,
+        doubled_parameters,
+        fibonacci_parameters,
+        nested_parameters,
+        functions,
+        deep_types,
+        one_bucket,
         last_unnamed,
         type_chain,
         name_chain,

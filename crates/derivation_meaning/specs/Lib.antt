@@ -1,10 +1,16 @@
 pub mod Notions
+pub mod Formulas
 pub mod Derives
 pub mod Derivable
 pub mod TestLaws
+pub mod EraseLaws
+pub mod Instances
 pub mod Plain
 pub mod RowLaws
 pub mod Cases
 pub mod Sound
 pub mod Complete
+pub mod Formed
+pub mod Start
 pub mod Meaning
+pub mod Intro

@@ -20,8 +20,9 @@ use Rattle.derivation_rules.specs.Erase.{bareTree}
 use Rattle.derivation_rules.specs.Rules.{sequent}
 use Rattle.derivation_rules.specs.Check.{nodeFault, premiseState, hypotheses, goalOf, startSequent, derivationWalk, derivationAnswer}
 use Rattle.derivation_meaning.specs.Derives.{Derives}
-use Rattle.derivation_meaning.specs.Derivable.{_⊢B_, derives-B}
+use Rattle.derivation_meaning.specs.Derivable.{_∣_⊢B_, derives-B}
 use Rattle.derivation_meaning.specs.Plain.{Plain, goal-plain}
+use Rattle.derivation_meaning.specs.Start.{files-formed}
 use Rattle.derivation_meaning.specs.Cases.{Claim}
 use Rattle.derivation_meaning.specs.Sound.{closed}
 use Rattle.derivation_meaning.specs.Complete.{derives-goes}
@@ -103,5 +104,5 @@ module _ (ob dv : List ℕ) where
   derivation-meaning k = (accepted-derives k, λ p. derives-accepted k (p .0) (p .1) (p .2))
 
   -- and the goal follows from the hypotheses by the B rules
-  pub accepted-B : (k : ℕ) → derivationAnswer ob dv ≡ accepted k → hypotheses (beside ob dv) ⊢B goalOf (beside ob dv)
-  accepted-B k h = derives-B (accepted-derives k h .2)
+  pub accepted-B : (k : ℕ) → derivationAnswer ob dv ≡ accepted k → beside ob dv ∣ hypotheses (beside ob dv) ⊢B goalOf (beside ob dv)
+  accepted-B k h = let p = accepted-derives k h in derives-B (files-formed 2 ob dv (p .0) (p .1)) (p .2)

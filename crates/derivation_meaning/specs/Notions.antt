@@ -32,12 +32,16 @@ Closed t = (i : ℕ) → Free i t → ⊥
 abbrev pub OpenInZero : Tree → Type 0
 OpenInZero t = (i : ℕ) → Free i t → i ≡ 0
 
+-- a node of kind k and atom a stands in the tree
+pub data Stands (k a : ℕ) : Tree → Type 0 where
+  itself : {l b : ℕ} {x y z : Tree} → l ≡ k → b ≡ a → Stands k a (node l b x y z)
+  inFirst : {l b : ℕ} {x y z : Tree} → Stands k a x → Stands k a (node l b x y z)
+  inSecond : {l b : ℕ} {x y z : Tree} → Stands k a y → Stands k a (node l b x y z)
+  inThird : {l b : ℕ} {x y z : Tree} → Stands k a z → Stands k a (node l b x y z)
+
 -- the constant c stands in the tree
-pub data Occurs (c : ℕ) : Tree → Type 0 where
-  itself : {k a : ℕ} {x y z : Tree} → k ≡ 7 → a ≡ c → Occurs c (node k a x y z)
-  inFirst : {k a : ℕ} {x y z : Tree} → Occurs c x → Occurs c (node k a x y z)
-  inSecond : {k a : ℕ} {x y z : Tree} → Occurs c y → Occurs c (node k a x y z)
-  inThird : {k a : ℕ} {x y z : Tree} → Occurs c z → Occurs c (node k a x y z)
+abbrev pub Occurs : ℕ → Tree → Type 0
+Occurs c t = Stands 7 c t
 
 -- "c is in neither Γ nor the goal"
 pub record Fresh (c : ℕ) (Γ : List Tree) (P : Tree) : Type 0 where

@@ -13,7 +13,7 @@ use Rattle.reader.specs.Variables.{binders, isBound, indicesBelow, isConstant, 
 use Rattle.reader.specs.Laws.{same-equal, same-self}
 use Rattle.accepted.specs.Scan.{both-parts, both-join, either-parts}
 use Rattle.derivation_rules.specs.Check.{member}
-use Rattle.derivation_meaning.specs.Notions.{_∈_, here, there, Free, Occurs}
+use Rattle.derivation_meaning.specs.Notions.{_∈_, here, there, Free, Stands, Occurs}
 
 -- a list with a member is not empty
 in-some : {A : Type 0} {x : A} {ys : List A} → x ∈ ys → 0 < length ys
@@ -76,7 +76,7 @@ module _ (d k a : ℕ) (x y z : Tree) (h : indicesBelow d (node k a x y z) ≡ t
   here-bound : isBound k a d ≡ true
   here-bound = both-parts _ _ (sym (below-both d k a x y z) ∙ h) .0
 
-  first-below : indicesBelow d x ≡ true
+  pub first-below : indicesBelow d x ≡ true
   first-below = both-parts _ _ (both-parts _ _ (sym (below-both d k a x y z) ∙ h) .1) .0
 
   second-below : indicesBelow (d + binders k) y ≡ true
@@ -142,20 +142,20 @@ unfolding occurs isConstant
 occurs-in c leaf h = absurd (false≢true h)
 occurs-in c (node k a x y z) h =
     either-parts _ _ (sym (occurs-either c k a x y z) ∙ h) (λ e. own (eqb k 7) refl e)
-    (λ r. either-parts _ _ r (λ e. Occurs.inFirst (occurs-in c x e))
-    (λ r. either-parts _ _ r (λ e. Occurs.inSecond (occurs-in c y e)) (λ e. Occurs.inThird (occurs-in c z e))))
+    (λ r. either-parts _ _ r (λ e. Stands.inFirst (occurs-in c x e))
+    (λ r. either-parts _ _ r (λ e. Stands.inSecond (occurs-in c y e)) (λ e. Stands.inThird (occurs-in c z e))))
   where
     own : (b : Bool) → eqb k 7 ≡ b → isConstant k a c ≡ true → Occurs c (node k a x y z)
-    own true e q = Occurs.itself (eqb-true k 7 e) (eqb-true a c (simp (isConstant, e) at q))
+    own true e q = Stands.itself (eqb-true k 7 e) (eqb-true a c (simp (isConstant, e) at q))
     own false e q = absurd (false≢true (simp (isConstant, e) at q))
 
 pub in-occurs : {c : ℕ} {t : Tree} → Occurs c t → occurs c t ≡ true
 unfolding isConstant
-in-occurs {c = c} (Occurs.itself {k = k} {a = a} {x = x} {y = y} {z = z} e q) =
+in-occurs {c = c} (Stands.itself {l = k} {b = a} {x = x} {y = y} {z = z} e q) =
     occurs-either c k a x y z ∙ either-left _ _ (ap (λ (k : ℕ). isConstant k a c) e ∙ eq-eqb a c q)
-in-occurs {c = c} (Occurs.inFirst {k = k} {a = a} {x = x} {y = y} {z = z} o) =
+in-occurs {c = c} (Stands.inFirst {l = k} {b = a} {x = x} {y = y} {z = z} o) =
     occurs-either c k a x y z ∙ either-right _ _ (either-left _ _ (in-occurs o))
-in-occurs {c = c} (Occurs.inSecond {k = k} {a = a} {x = x} {y = y} {z = z} o) =
+in-occurs {c = c} (Stands.inSecond {l = k} {b = a} {x = x} {y = y} {z = z} o) =
     occurs-either c k a x y z ∙ either-right _ _ (either-right _ _ (either-left _ _ (in-occurs o)))
-in-occurs {c = c} (Occurs.inThird {k = k} {a = a} {x = x} {y = y} {z = z} o) =
+in-occurs {c = c} (Stands.inThird {l = k} {b = a} {x = x} {y = y} {z = z} o) =
     occurs-either c k a x y z ∙ either-right _ _ (either-right _ _ (either-right _ _ (in-occurs o)))

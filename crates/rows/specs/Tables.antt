@@ -13,6 +13,7 @@ use Rattle.reader.specs.Trees.{Tree, tree}
 use Rattle.proof_rules.specs.Rules.{Row, row, noRow}
 use Rattle.proof_rules.specs.RowLaws.{NoRule, row-none, by-rule}
 use Rattle.proof_rules.specs.Check.{member, rowOf}
+use Rattle.forms.specs.Tables.{ruleEntry, entry-none}
 use Rattle.rows.specs.Paths.{stepTree, pathTree, partTrees}
 use Rattle.rows.specs.Forms.{leftPath, rightPath, formTree, needTree, oneTree, twoTrees, needHolds, two-hold}
 
@@ -34,10 +35,6 @@ adds =
     26 ∷ 0 ∷ 0 ∷ 0 ∷  -- 45
     4 ∷ 0 ∷ 80 ∷ 0 ∷ []  -- 46
 
--- what stands at place i of a table of the fifteen rules, 0 for no rule
-unfoldable pub ruleEntry : List ℕ → ℕ → ℕ → ℕ
-ruleEntry table k i = ifLt k 32 0 (ifLt 46 k 0 (getD table i 0))
-
 -- need w of rule k
 unfoldable pub needForm : ℕ → ℕ → ℕ
 needForm k w = ruleEntry needs k (2 * (k - 32) + w)
@@ -45,18 +42,6 @@ needForm k w = ruleEntry needs k (2 * (k - 32) + w)
 -- member w that premise b of rule k adds
 unfoldable pub addForm : ℕ → ℕ → ℕ → ℕ
 addForm k b w = ifLt b 2 (ruleEntry adds k (4 * (k - 32) + 2 * b + w)) 0
-
-pub entry-none : (table : List ℕ) (k i : ℕ) → NoRule k → ruleEntry table k i ≡ 0
-unfolding ruleEntry ifLt
-entry-none table k i h = go (ltb k 32) refl
-  where
-    past-by : 32 ≤ k → (b : Bool) → ltb 46 k ≡ b → 46 < k
-    past-by z true e = ltb-true 46 k e
-    past-by z false e = let y : k ≤ 46 = ltb-false 46 k e in absurd (h k z y refl)
-
-    go : (b : Bool) → ltb k 32 ≡ b → _≡_ {A = ℕ} (elim b [ true ↦ 0 | false ↦ elim (ltb 46 k) [ true ↦ 0 | false ↦ getD table i 0 ] ]) 0
-    go true e = refl
-    go false e = let z : 32 ≤ k = ltb-false k 32 e in simp (lt-ltb 46 k (past-by z (ltb 46 k) refl))
 
 -- the rows say what the tables say
 needs-are : (ps : List Tree) (k : ℕ) → row k ps .needs ≡ twoTrees (needTree ps) (needForm k 0) (needForm k 1)
@@ -118,21 +103,7 @@ adds-are ps k (suc (suc b)) =
     none : (c : ℕ) → 2 ≤ c → twoTrees (formTree ps) (addForm k c 0) (addForm k c 1) ≡ []
     none c h = rw (← add-past k c 0 h, ← add-past k c 1 h) refl
 
--- The ways out of the code that reads the tables.
-module _ (table : List ℕ) (k i : ℕ) where
-  pub entry-low : k < 32 → 0 ≡ ruleEntry table k i
-  unfolding ruleEntry ifLt
-  entry-low h = simp (ruleEntry, ifLt, lt-ltb k 32 h)
-
-  module _ (low : 32 ≤ k) where
-    pub entry-high : 46 < k → 0 ≡ ruleEntry table k i
-    unfolding ruleEntry ifLt
-    entry-high h = simp (ruleEntry, ifLt, le-ltb k 32 low, lt-ltb 46 k h)
-
-    pub entry-rule : k ≤ 46 → getD table i 0 ≡ ruleEntry table k i
-    unfolding ruleEntry ifLt
-    entry-rule h = simp (ruleEntry, ifLt, le-ltb k 32 low, le-ltb 46 k h)
-
+-- The way out of the code that reads what is added.
 module _ (k b w : ℕ) where
   pub add-entry : b < 2 → (r : ℕ) → r ≡ ruleEntry adds k (4 * (k - 32) + 2 * b + w) → r ≡ addForm k b w
   unfolding addForm ifLt

@@ -1,5 +1,6 @@
 use borrow.Author.Needs.{needs}
-use Rattle.rows.specs.Tables.{add-past, add-entry, entry-low, entry-high, entry-rule}
+use Rattle.forms.specs.Tables.{entry-low, entry-high, entry-rule}
+use Rattle.rows.specs.Tables.{add-past, add-entry}
 use Rattle.rows.proofs.tables.add_form.Statement.{statement}
 use Rattle.rows.proofs.tables.add_form.Tie as tie
 

@@ -1,5 +1,6 @@
 use borrow.Author.Needs.{needs}
-use Rattle.rows.specs.Tables.{needForm, entry-low, entry-high, entry-rule}
+use Rattle.forms.specs.Tables.{entry-low, entry-high, entry-rule}
+use Rattle.rows.specs.Tables.{needForm}
 use Rattle.rows.proofs.tables.need_form.Statement.{statement}
 use Rattle.rows.proofs.tables.need_form.Tie as tie
 
