@@ -5,7 +5,15 @@
 #include <stddef.h>
 #include <stdint.h>
 
-/* The answer's four numbers: refusal (0 for none), file (1 obligation, 2 the other), record (0 for the file itself), rule nodes entered. */
+/* The answer's four numbers.
+ *   refusal  0 where the files are accepted; else the first refusal that applies, places top to bottom:
+ *            1 length; 2 header; 3 kind; 4 a word out of range; 5 a reference; 6 a chain's length; 7 weight; 8 a name; 9 a name
+ *            taken; 10 typing; 11 hypotheses, goal or root; 12 a rule node not named exactly once; then, at a node of the walk:
+ *            13 number, class or form of its parts or premises; 14 a needed member; 15 what its parts must fit; 16 a constant
+ *            not fresh; 17 a premise of over 1,024 members
+ *   file     1 the obligation, 2 the other; 0 on acceptance
+ *   record   the record's number, counted through both files, 0 for the file itself; 0 on acceptance
+ *   nodes    the rule nodes that the walk entered, the refused one among them; 0 before the walk */
 struct desk_answer {
     unsigned refusal;
     unsigned file;
@@ -13,10 +21,14 @@ struct desk_answer {
     unsigned long nodes;
 };
 
-/* Refusals 1 to 12 of an obligation and a proof, or a derivation; 0 where none applies. */
+/* The whole check of a proof: refusals 1 to 17, or acceptance. In libproof_check.a. */
+uint64_t desk_check_proof(const uint8_t *obligation, size_t obligation_length, const uint8_t *proof, size_t proof_length);
+
+/* Refusals 1 to 12 of an obligation and a proof, or a derivation; 0 where none applies. In libreading.a. */
 uint64_t desk_read_proof(const uint8_t *obligation, size_t obligation_length, const uint8_t *proof, size_t proof_length);
 uint64_t desk_read_derivation(const uint8_t *obligation, size_t obligation_length, const uint8_t *derivation, size_t derivation_length);
 
+/* An entry's answer: the refusal in bits 56 to 63, the file in 48 to 55, the record in 24 to 47, the nodes in 0 to 23. */
 static inline struct desk_answer desk_unpack(uint64_t packed)
 {
     struct desk_answer a;

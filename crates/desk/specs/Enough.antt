@@ -15,6 +15,13 @@ use Rattle.reader.specs.Words.{recordCount}
 use Rattle.reader.specs.Places.{mostRecords, lengthFits, obligationReading, secondReading, reading}
 use Rattle.proof_rules.specs.Check.{proofAnswer}
 
+-- bytes read of an obligation and of a proof: one more than 1,024 and 3,073 records have
+abbrev pub obligationRead : ℕ
+obligationRead = 16385
+
+abbrev pub proofRead : ℕ
+proofRead = 49169
+
 both-false : (a : Bool) → both a false ≡ false
 unfolding both
 both-false true = refl
@@ -39,19 +46,19 @@ proof-long : (ob pf : List ℕ) → 49168 < length pf → secondReading 1 ob pf 
 unfolding secondReading placed demand orAnswer mostRecords ifEq
 proof-long ob pf h = simp (secondReading, too-long 1 pf h, placed, demand, orAnswer)
 
--- the first 16,385 bytes of an obligation do
-obligation-enough : (ob pf : List ℕ) → proofAnswer (take 16385 ob) pf ≡ proofAnswer ob pf
+-- what is read of an obligation does
+obligation-enough : (ob pf : List ℕ) → proofAnswer (take obligationRead ob) pf ≡ proofAnswer ob pf
 unfolding proofAnswer reading orAnswer
 obligation-enough ob pf = go (ltb 16384 (length ob)) refl
   where
     refused : (s : List ℕ) → 16384 < length s → proofAnswer s pf ≡ answer 1 1 0 0
     refused s h = simp (proofAnswer, reading, obligation-long s h, orAnswer)
 
-    go : (b : Bool) → ltb 16384 (length ob) ≡ b → proofAnswer (take 16385 ob) pf ≡ proofAnswer ob pf
-    go false e = let short = ltb-false 16384 (length ob) e in rw (take-all 16385 ob (omega arith))
+    go : (b : Bool) → ltb 16384 (length ob) ≡ b → proofAnswer (take obligationRead ob) pf ≡ proofAnswer ob pf
+    go false e = let short = ltb-false 16384 (length ob) e in rw (take-all obligationRead ob (omega arith))
     go true e =
         let long = ltb-true 16384 (length ob) e in
-        refused (take 16385 ob) (omega (arith, length-take 16385 ob)) ∙ sym (refused ob long)
+        refused (take obligationRead ob) (omega (arith, length-take obligationRead ob)) ∙ sym (refused ob long)
 
 -- nothing after a refusal of the proof's length counts
 stays : (a w : Answer) → orAnswer (orAnswer a (answer 1 2 0 0)) w ≡ orAnswer a (answer 1 2 0 0)
@@ -62,20 +69,20 @@ stays a w = go (eqb (a .refusal) 0) refl
     go true e = simp (orAnswer, e)
     go false e = simp (orAnswer, e)
 
--- the first 49,169 bytes of a proof do
-proof-enough : (ob pf : List ℕ) → proofAnswer ob (take 49169 pf) ≡ proofAnswer ob pf
+-- what is read of a proof does
+proof-enough : (ob pf : List ℕ) → proofAnswer ob (take proofRead pf) ≡ proofAnswer ob pf
 unfolding proofAnswer reading
 proof-enough ob pf = go (ltb 49168 (length pf)) refl
   where
     refused : (s : List ℕ) → 49168 < length s → proofAnswer ob s ≡ orAnswer (obligationReading ob) (answer 1 2 0 0)
     refused s h = simp (proofAnswer, reading, proof-long ob s h) (stays (obligationReading ob) _)
 
-    go : (b : Bool) → ltb 49168 (length pf) ≡ b → proofAnswer ob (take 49169 pf) ≡ proofAnswer ob pf
-    go false e = let short = ltb-false 49168 (length pf) e in rw (take-all 49169 pf (omega arith))
+    go : (b : Bool) → ltb 49168 (length pf) ≡ b → proofAnswer ob (take proofRead pf) ≡ proofAnswer ob pf
+    go false e = let short = ltb-false 49168 (length pf) e in rw (take-all proofRead pf (omega arith))
     go true e =
         let long = ltb-true 49168 (length pf) e in
-        refused (take 49169 pf) (omega (arith, length-take 49169 pf)) ∙ sym (refused pf long)
+        refused (take proofRead pf) (omega (arith, length-take proofRead pf)) ∙ sym (refused pf long)
 
 -- "A file longer than any accepted one is still answered rightly (read one byte more than the limit)"
-pub enough : (ob pf : List ℕ) → proofAnswer (take 16385 ob) (take 49169 pf) ≡ proofAnswer ob pf
-enough ob pf = obligation-enough ob (take 49169 pf) ∙ proof-enough ob pf
+pub enough : (ob pf : List ℕ) → proofAnswer (take obligationRead ob) (take proofRead pf) ≡ proofAnswer ob pf
+enough ob pf = obligation-enough ob (take proofRead pf) ∙ proof-enough ob pf

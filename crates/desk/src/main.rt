@@ -1,14 +1,15 @@
 // `desk OBLIGATION PROOF` checks a proof against its obligation, and writes the answer's four numbers on one line.
 use programs::files;
 use programs::lines;
-ghost use Rattle.reader.specs.Places.{reading};
+use proof_check::check;
+ghost use Rattle.proof_rules.specs.Check.{proofAnswer};
 ghost use Rattle.programs.specs.Lines.{EndsIn};
 
 // Writes the line of the answer to two files at the end of the area; where it begins.
 fn put_answer(obligation: &[u8], proof: &[u8], out: &mut [u8; 84]) -> usize
-    ensures { λ r. ⌜ EndsIn (reading 1 (now (obligation .entry)) (now (proof .entry))) (now (out .exit)) r ⌝ }
+    ensures { λ r. ⌜ EndsIn (proofAnswer (now (obligation .entry)) (now (proof .entry))) (now (out .exit)) r ⌝ }
 {
-    lines::put_line(out, reading::places::read_proof(obligation, proof))
+    lines::put_line(out, check::check_proof(obligation, proof))
 }
 
 // Writes the line of the answer to two files to standard output.

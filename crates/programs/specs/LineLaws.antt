@@ -10,7 +10,8 @@ use lib.ListN.{length, drop, set, getD, length-set}
 use lib.Seq.{drop-cons, getD-set-same, drop-set-lt, append-snoc}
 use Rattle.reader.specs.Tests.{ifLt}
 use Rattle.reader.specs.Down.{Local, down, down-zero, down-step}
-use Rattle.programs.specs.Lines.{digit, decimalStep, decimal}
+use Rattle.reader.specs.declared.Answer.{Answer}
+use Rattle.programs.specs.Lines.{digit, decimalStep, decimal, line, EndsIn}
 
 step-local : Local decimalStep
 unfolding decimalStep
@@ -72,3 +73,13 @@ pub writing-end : (n rest end begin r : ℕ) (out out′ tail : List ℕ) → Wr
     → drop r out′ ≡ digit rest ∷ drop begin out → (r < end) × (end ≤ r + 20) × (drop r out′ ≡ decimal n ++ tail)
 writing-end n rest end begin r out out′ tail w h e d =
     (omega (arith, w .inside), omega (arith, w .room), d ∙ rw (decimal-last rest h) at (w .text))
+
+-- four numbers written before each other, nothing after them
+pub line-of : (a : Answer) (end s₁ s₂ s₃ s₄ : List ℕ) → end ≡ [] → s₁ ≡ decimal (a .nodes) ++ (10 ∷ end) → s₂ ≡ decimal (a .at) ++ (32 ∷ s₁)
+    → s₃ ≡ decimal (a .file) ++ (32 ∷ s₂) → s₄ ≡ decimal (a .refusal) ++ (32 ∷ s₃) → s₄ ≡ line a
+unfolding line
+line-of a end s₁ s₂ s₃ s₄ none e₁ e₂ e₃ e₄ = rw (e₄, e₃, e₂, e₁, none)
+
+-- an area that ends in the line of an answer ends in that of an equal one
+pub ends-in-equal : (a b : Answer) (out : List ℕ) (begin : ℕ) → a ≡ b → EndsIn a out begin → EndsIn b out begin
+ends-in-equal a b out begin e w = rw (← e) w

@@ -3,12 +3,11 @@ use native.Mathlib.Omega.{arith}
 use mathlib.Core.Path.{_≡_}
 use mathlib.Core.List.{[]}
 use lib.ListN.{drop, drop-of-length-le}
-use Rattle.programs.specs.Lines.{line}
+use Rattle.programs.specs.LineLaws.{line-of}
 use Rattle.programs.proofs.lines.put_line.Statement.{statement}
 use Rattle.programs.proofs.lines.put_line.Tie as tie
 
 pub put-line-spec : {M : Type 1} → statement M
-unfolding line
 put-line-spec = tie.close (tie.spec
     -- put-number-requires: put-number-arg; 1 args
     (λ c κs. search needs)
@@ -22,4 +21,12 @@ put-line-spec = tie.close (tie.spec
     (λ c.
     let out = c .before .before .before .before .before .before .before .before .args .out .now in
     let none : drop 84 out ≡ [] = drop-of-length-le out {i = 84} (omega arith) in
-    record { whole = omega arith; inside = omega arith; text = cc }))
+    record {
+      whole = omega arith;
+      inside = omega arith;
+      text = line-of _ _ _ _ _ _ none
+          (c .before .before .before .before .before .before .put-number .ensures .2)
+          (c .before .before .before .before .put-number2 .ensures .2)
+          (c .before .before .put-number3 .ensures .2)
+          (c .put-number4 .ensures .2);
+    }))
