@@ -4,3 +4,4 @@ pub mod Makers
 pub mod Table
 pub mod Filling
 pub mod Parts
+pub mod Shapes

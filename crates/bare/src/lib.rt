@@ -3,3 +3,4 @@
 pub mod fill;
 pub mod keys;
 pub mod parts;
+pub mod shapes;
