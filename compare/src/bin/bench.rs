@@ -1,6 +1,7 @@
-//! `bench [SYMBOLS [NAME]]`: time per call of the proved reading next to the second implementation's, on
-//! the same files. At most SYMBOLS symbols where names are measured; only shapes with NAME in their name.
+//! `bench [SYMBOLS [NAME]]`: time per call of the proved code next to the second implementation's, on the
+//! same files: the reading, and for accepted proofs (w) the whole check. At most SYMBOLS symbols where names are measured; only shapes with NAME in their name.
 
+use compare::shapes::walks::walks;
 use compare::shapes::{shapes, Shape};
 use compare::threads::in_thread;
 use compare::{desk, Asked};
@@ -35,6 +36,11 @@ fn main() {
             if in_thread(|| measure(&shape, reading(kind))) > SLOW {
                 slow.push(shape.name);
             }
+        }
+    }
+    for shape in walks().into_iter().filter(|shape| shape.name.contains(&wanted)) {
+        if in_thread(|| measure(&shape, Asked::CheckProof)) > SLOW {
+            slow.push(shape.name);
         }
     }
     match slow.is_empty() {
