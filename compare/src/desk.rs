@@ -1,6 +1,6 @@
 //! The C entries of the proved code. Each wants some MiB of stack (see [`crate::threads`]).
 
-use second::reader::Second;
+use crate::Asked;
 use second::Answer;
 
 type Entry = unsafe extern "C" fn(*const u8, usize, *const u8, usize) -> u64;
@@ -18,13 +18,20 @@ extern "C" {
         derivation: *const u8,
         derivation_len: usize,
     ) -> u64;
+    fn desk_check_proof(
+        obligation: *const u8,
+        obligation_len: usize,
+        proof: *const u8,
+        proof_len: usize,
+    ) -> u64;
 }
 
-/// The places before the walk; 0, 0, 0, 0 if none refuses.
-pub fn read(kind: Second, obligation: &[u8], second: &[u8]) -> Answer {
-    match kind {
-        Second::Proof => call(desk_read_proof, obligation, second),
-        Second::Derivation => call(desk_read_derivation, obligation, second),
+/// The proved code's answer.
+pub fn answer(asked: Asked, obligation: &[u8], second: &[u8]) -> Answer {
+    match asked {
+        Asked::ReadProof => call(desk_read_proof, obligation, second),
+        Asked::ReadDerivation => call(desk_read_derivation, obligation, second),
+        Asked::CheckProof => call(desk_check_proof, obligation, second),
     }
 }
 

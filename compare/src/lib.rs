@@ -10,10 +10,39 @@ pub mod vectors;
 use second::reader::Second;
 use second::Answer;
 
-/// The second implementation's places 1 to 12.
-pub fn second_read(kind: Second, obligation: &[u8], second: &[u8]) -> Answer {
-    match kind {
-        Second::Proof => second::read_proof(obligation, second),
-        Second::Derivation => second::read_derivation(obligation, second),
+/// What is asked of both: the places before the walk, or the whole check.
+#[derive(Clone, Copy, Debug, PartialEq)]
+pub enum Asked {
+    ReadProof,
+    ReadDerivation,
+    CheckProof,
+}
+
+impl Asked {
+    pub const ALL: [Asked; 3] = [Asked::ReadProof, Asked::ReadDerivation, Asked::CheckProof];
+
+    /// The kind of the second file.
+    pub fn kind(self) -> Second {
+        match self {
+            Asked::ReadProof | Asked::CheckProof => Second::Proof,
+            Asked::ReadDerivation => Second::Derivation,
+        }
+    }
+
+    /// The second implementation's answer.
+    pub fn second(self, obligation: &[u8], second: &[u8]) -> Answer {
+        match self {
+            Asked::ReadProof => second::read_proof(obligation, second),
+            Asked::ReadDerivation => second::read_derivation(obligation, second),
+            Asked::CheckProof => second::check_proof(obligation, second),
+        }
+    }
+
+    /// The answer where the whole check answers so: a reading ends at place 12.
+    pub fn of_whole(self, answer: Answer) -> Answer {
+        match (self, answer.refusal) {
+            (Asked::CheckProof, _) | (_, 1..=12) => answer,
+            _ => Answer::accepted(0),
+        }
     }
 }

@@ -1,5 +1,7 @@
 //! Large files for measuring: ordinary ones, and ones that are costly for a careless reader.
 
+pub mod walks;
+
 use second::generate::rng::Rng;
 use second::generate::writer::Writer;
 use second::kinds::*;

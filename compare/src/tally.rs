@@ -1,7 +1,6 @@
 //! What a comparison counts and where it found a difference.
 
-use crate::{desk, second_read};
-use second::reader::Second;
+use crate::{desk, Asked};
 use second::Answer;
 use std::fmt::Write;
 
@@ -15,41 +14,46 @@ pub struct Tally {
     pub cases: u64,
     pub differences: u64,
     /// How often each refusal was the answer, for each file; 0 is none.
-    pub refusals: [[u64; 3]; 13],
+    pub refusals: [[u64; 3]; 19],
+    /// Most nodes of an accepted file.
+    pub most_nodes: u64,
     shown: Vec<String>,
 }
 
 impl Tally {
-    /// Compares the proved reading with the second implementation's.
-    pub fn compare(&mut self, label: &str, kind: Second, obligation: &[u8], second: &[u8]) {
-        let wanted = second_read(kind, obligation, second);
-        self.compare_with(label, kind, obligation, second, wanted);
+    /// Compares the proved code with the second implementation.
+    pub fn compare(&mut self, label: &str, asked: Asked, obligation: &[u8], second: &[u8]) {
+        let wanted = asked.second(obligation, second);
+        self.compare_with(label, asked, obligation, second, wanted);
     }
 
-    /// Compares the proved reading with a known answer.
+    /// Compares the proved code with a known answer.
     pub fn compare_with(
         &mut self,
         label: &str,
-        kind: Second,
+        asked: Asked,
         obligation: &[u8],
         second: &[u8],
         wanted: Answer,
     ) {
-        let found = desk::read(kind, obligation, second);
+        let found = desk::answer(asked, obligation, second);
         self.cases += 1;
         self.refusals[wanted.refusal as usize][wanted.file as usize] += 1;
+        if wanted.is_accepted() {
+            self.most_nodes = self.most_nodes.max(wanted.nodes);
+        }
         if found != wanted {
             self.differences += 1;
-            self.show(label, kind, [obligation, second], [found, wanted]);
+            self.show(label, asked, [obligation, second], [found, wanted]);
         }
     }
 
-    fn show(&mut self, label: &str, kind: Second, files: [&[u8]; 2], answers: [Answer; 2]) {
+    fn show(&mut self, label: &str, asked: Asked, files: [&[u8]; 2], answers: [Answer; 2]) {
         if self.shown.len() < MOST_SHOWN {
             let [found, wanted] = answers;
             let [obligation, second] = files.map(hex);
             self.shown.push(format!(
-                "{label} ({kind:?}): {wanted} is wanted, the proved code gives {found}\n  ob {obligation}\n  second {second}"
+                "{label} ({asked:?}): {wanted} is wanted, the proved code gives {found}\n  ob {obligation}\n  second {second}"
             ));
         }
     }
@@ -61,6 +65,7 @@ impl Tally {
     pub fn add(&mut self, other: Tally) {
         self.cases += other.cases;
         self.differences += other.differences;
+        self.most_nodes = self.most_nodes.max(other.most_nodes);
         for (mine, theirs) in self.refusals.iter_mut().zip(other.refusals) {
             mine.iter_mut().zip(theirs).for_each(|(m, t)| *m += t);
         }
@@ -85,7 +90,10 @@ impl Tally {
     }
 
     fn counts(&self) -> String {
-        let mut text = format!("none {}", self.refusals[0][0]);
+        let mut text = format!(
+            "none {} (up to {} nodes)",
+            self.refusals[0][0], self.most_nodes
+        );
         for (refusal, files) in self.refusals.iter().enumerate().skip(1) {
             let _ = write!(text, ", {refusal}: {}+{}", files[1], files[2]);
         }

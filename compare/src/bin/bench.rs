@@ -1,9 +1,10 @@
-//! `bench [SYMBOLS [NAME]]`: time per call of the proved reading next to the second implementation's, on
-//! the same files. At most SYMBOLS symbols where names are measured; only shapes with NAME in their name.
+//! `bench [SYMBOLS [NAME]]`: time per call of the proved code next to the second implementation's, on the
+//! same files: the reading, and for accepted proofs (w) the whole check. At most SYMBOLS symbols where names are measured; only shapes with NAME in their name.
 
+use compare::shapes::walks::walks;
 use compare::shapes::{shapes, Shape};
 use compare::threads::in_thread;
-use compare::{desk, second_read};
+use compare::{desk, Asked};
 use second::reader::Second;
 use second::Answer;
 use std::hint::black_box;
@@ -15,7 +16,7 @@ const ENOUGH: Duration = Duration::from_secs(3);
 const SLOW: Duration = Duration::from_secs(1);
 const USUAL_SYMBOLS: u32 = 4_000;
 
-type Reading = fn(Second, &[u8], &[u8]) -> Answer;
+type Answering = fn(Asked, &[u8], &[u8]) -> Answer;
 
 fn main() {
     let mut arguments = std::env::args().skip(1);
@@ -32,9 +33,14 @@ fn main() {
     for kind in [Second::Proof, Second::Derivation] {
         let list = shapes(kind, symbols).into_iter();
         for shape in list.filter(|shape| shape.name.contains(&wanted)) {
-            if in_thread(|| measure(&shape)) > SLOW {
+            if in_thread(|| measure(&shape, reading(kind))) > SLOW {
                 slow.push(shape.name);
             }
+        }
+    }
+    for shape in walks().into_iter().filter(|shape| shape.name.contains(&wanted)) {
+        if in_thread(|| measure(&shape, Asked::CheckProof)) > SLOW {
+            slow.push(shape.name);
         }
     }
     match slow.is_empty() {
@@ -43,10 +49,17 @@ fn main() {
     }
 }
 
-/// Prints the shape's row; gives back the proved reading's time.
-fn measure(shape: &Shape) -> Duration {
-    let (proved, found) = best(shape, desk::read);
-    let (second, wanted) = best(shape, second_read);
+fn reading(kind: Second) -> Asked {
+    match kind {
+        Second::Proof => Asked::ReadProof,
+        Second::Derivation => Asked::ReadDerivation,
+    }
+}
+
+/// Prints the shape's row; gives back the proved code's time.
+fn measure(shape: &Shape, asked: Asked) -> Duration {
+    let (proved, found) = best(shape, asked, desk::answer);
+    let (second, wanted) = best(shape, asked, Asked::second);
     let records = shape.records();
     let per_record = |time: Duration| time.as_nanos() as f64 / records as f64;
     println!(
@@ -67,14 +80,14 @@ fn milliseconds(time: Duration) -> f64 {
     time.as_secs_f64() * 1_000.0
 }
 
-fn best(shape: &Shape, read: Reading) -> (Duration, Answer) {
+fn best(shape: &Shape, asked: Asked, answering: Answering) -> (Duration, Answer) {
     let start = Instant::now();
     let mut rounds = Vec::new();
     let mut answer = Answer::accepted(0);
     while rounds.len() < ROUNDS && start.elapsed() < ENOUGH {
         let round = Instant::now();
-        answer = read(
-            shape.kind,
+        answer = answering(
+            asked,
             black_box(&shape.obligation),
             black_box(&shape.second),
         );

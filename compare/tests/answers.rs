@@ -1,36 +1,35 @@
-//! Places 1 to 12: the proved reading gives the second implementation's answers.
+//! The proved code gives the second implementation's answers: places 1 to 12, and the whole proof check.
 
 use compare::bytes::{case, damage, random, random_records, small_case};
 use compare::desk;
 use compare::tally::Tally;
 use compare::threads::{in_thread, in_threads};
 use compare::vectors::{vectors, FILES};
+use compare::Asked;
 use second::generate::limits::limits;
 use second::generate::rng::Rng;
 use second::generate::Case;
 use second::reader::Second;
 use second::Answer;
 
-const KINDS: [Second; 2] = [Second::Proof, Second::Derivation];
 const THREADS: u64 = 2;
 const CASES: u64 = 60_000;
+const CHECKED_CASES: u64 = 100_000;
 const RAW_CASES: u64 = 30_000;
 const MOST_RAW_BYTES: usize = 600;
 
-/// The number of generated cases of each kind: COMPARE_CASES, or the usual one.
-fn generated_cases() -> u64 {
-    match std::env::var("COMPARE_CASES") {
-        Ok(text) => text.parse().expect("COMPARE_CASES is a number"),
-        Err(_) => CASES,
+/// The number of generated cases for each question: COMPARE_CASES, or the usual one.
+fn generated_cases(asked: Asked) -> u64 {
+    match (std::env::var("COMPARE_CASES"), asked) {
+        (Ok(text), _) => text.parse().expect("COMPARE_CASES is a number"),
+        (Err(_), Asked::CheckProof) => CHECKED_CASES,
+        (Err(_), _) => CASES,
     }
 }
 
-/// What the reading answers where the whole check answers so.
-fn of_reading(answer: Answer) -> Answer {
-    match answer.refusal {
-        1..=12 => answer,
-        _ => Answer::accepted(0),
-    }
+/// The questions that files of this kind are an input of.
+fn questions(kind: Second) -> impl Iterator<Item = Asked> {
+    Asked::ALL.into_iter().filter(move |asked| asked.kind() == kind)
 }
 
 #[test]
@@ -39,8 +38,10 @@ fn vector_files() {
         let tally = in_thread(|| {
             let mut tally = Tally::default();
             for v in vectors(file) {
-                let wanted = of_reading(v.answer);
-                tally.compare_with(&v.label, v.kind, &v.obligation, &v.second, wanted);
+                for asked in questions(v.kind) {
+                    let wanted = asked.of_whole(v.answer);
+                    tally.compare_with(&v.label, asked, &v.obligation, &v.second, wanted);
+                }
             }
             tally
         });
@@ -55,51 +56,58 @@ fn edges() {
         for limit in limits() {
             let case = limit.case;
             let (obligation, second) = (&case.obligation, &case.second);
-            tally.compare(&case.label, limit.kind, obligation, second);
-            let wanted = of_reading(limit.answer);
-            tally.compare_with(&case.label, limit.kind, obligation, second, wanted);
+            for asked in questions(limit.kind) {
+                tally.compare(&case.label, asked, obligation, second);
+                let wanted = asked.of_whole(limit.answer);
+                tally.compare_with(&case.label, asked, obligation, second, wanted);
+            }
         }
         tally
     });
     tally.report("edges, each against both answers");
 }
 
-/// Both kinds, the numbers shared out over the threads, up to the first few differences.
-fn compare_all(what: &str, count: u64, compare: impl Fn(&mut Tally, Second, u64) + Sync) {
+/// Every question, the numbers shared out over the threads, up to the first few differences.
+fn compare_all(
+    what: &str,
+    count: impl Fn(Asked) -> u64,
+    compare: impl Fn(&mut Tally, Asked, u64) + Sync,
+) {
     let mut reports = Vec::new();
-    for kind in KINDS {
+    for asked in Asked::ALL {
+        let count = count(asked);
         let tallies = in_threads(THREADS, |thread| {
             let mut tally = Tally::default();
             let mut seed = thread;
             while seed < count && !tally.too_many() {
-                compare(&mut tally, kind, seed);
+                compare(&mut tally, asked, seed);
                 seed += THREADS;
             }
             tally
         });
-        reports.push((format!("{what} {kind:?}"), Tally::sum(tallies)));
+        reports.push((format!("{what} {asked:?}"), Tally::sum(tallies)));
     }
     reports.iter().for_each(|(what, tally)| tally.report(what));
 }
 
 #[test]
 fn generated() {
-    compare_all("generated", generated_cases(), |tally, kind, seed| {
-        let case = case(kind, seed);
+    compare_all("generated", generated_cases, |tally, asked, seed| {
+        let case = case(asked.kind(), seed);
         let label = format!("seed {seed} {}", case.label);
-        tally.compare(&label, kind, &case.obligation, &case.second);
+        tally.compare(&label, asked, &case.obligation, &case.second);
     });
 }
 
 /// Random files and damaged ones, at odd addresses too.
 #[test]
 fn raw_bytes() {
-    compare_all("raw", RAW_CASES, |tally, kind, seed| {
-        let (label, files) = raw(kind, seed);
+    compare_all("raw", |_| RAW_CASES, |tally, asked, seed| {
+        let (label, files) = raw(asked.kind(), seed);
         let shift = seed as usize % 3;
         let [obligation, second] = files.map(|bytes| [&vec![0; shift][..], &bytes[..]].concat());
         let label = format!("raw {seed} {label}");
-        tally.compare(&label, kind, &obligation[shift..], &second[shift..]);
+        tally.compare(&label, asked, &obligation[shift..], &second[shift..]);
     });
 }
 
