@@ -4,6 +4,8 @@ use crate::{desk, Asked};
 use second::Answer;
 use std::fmt::Write;
 
+/// Nodes from which on an accepted file counts as large.
+pub const LARGE: u64 = 200;
 /// Differences that are shown in full.
 const MOST_SHOWN: usize = 5;
 /// Longest file that is shown in full.
@@ -17,6 +19,8 @@ pub struct Tally {
     pub refusals: [[u64; 3]; 19],
     /// Most nodes of an accepted file.
     pub most_nodes: u64,
+    /// Accepted files of at least [`LARGE`] nodes.
+    pub large: u64,
     shown: Vec<String>,
 }
 
@@ -41,6 +45,7 @@ impl Tally {
         self.refusals[wanted.refusal as usize][wanted.file as usize] += 1;
         if wanted.is_accepted() {
             self.most_nodes = self.most_nodes.max(wanted.nodes);
+            self.large += u64::from(wanted.nodes >= LARGE);
         }
         if found != wanted {
             self.differences += 1;
@@ -66,6 +71,7 @@ impl Tally {
         self.cases += other.cases;
         self.differences += other.differences;
         self.most_nodes = self.most_nodes.max(other.most_nodes);
+        self.large += other.large;
         for (mine, theirs) in self.refusals.iter_mut().zip(other.refusals) {
             mine.iter_mut().zip(theirs).for_each(|(m, t)| *m += t);
         }
@@ -91,8 +97,8 @@ impl Tally {
 
     fn counts(&self) -> String {
         let mut text = format!(
-            "none {} (up to {} nodes)",
-            self.refusals[0][0], self.most_nodes
+            "none {} (up to {} nodes, {} of {LARGE} and more)",
+            self.refusals[0][0], self.most_nodes, self.large
         );
         for (refusal, files) in self.refusals.iter().enumerate().skip(1) {
             let _ = write!(text, ", {refusal}: {}+{}", files[1], files[2]);

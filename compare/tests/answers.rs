@@ -6,6 +6,7 @@ use compare::tally::Tally;
 use compare::threads::{in_thread, in_threads};
 use compare::vectors::{vectors, FILES};
 use compare::Asked;
+use second::generate::large_proofs;
 use second::generate::limits::limits;
 use second::generate::rng::Rng;
 use second::generate::Case;
@@ -16,6 +17,8 @@ const THREADS: u64 = 2;
 const CASES: u64 = 60_000;
 const CHECKED_CASES: u64 = 100_000;
 const RAW_CASES: u64 = 30_000;
+/// Each makes some seven pairs.
+const LARGE_PROOFS: u64 = 3_000;
 const MOST_RAW_BYTES: usize = 600;
 
 /// The number of generated cases for each question: COMPARE_CASES, or the usual one.
@@ -29,7 +32,9 @@ fn generated_cases(asked: Asked) -> u64 {
 
 /// The questions that files of this kind are an input of.
 fn questions(kind: Second) -> impl Iterator<Item = Asked> {
-    Asked::ALL.into_iter().filter(move |asked| asked.kind() == kind)
+    Asked::ALL
+        .into_iter()
+        .filter(move |asked| asked.kind() == kind)
 }
 
 #[test]
@@ -99,16 +104,40 @@ fn generated() {
     });
 }
 
+/// Accepted proofs of hundreds of nodes, and near misses of each.
+#[test]
+fn large() {
+    let count = LARGE_PROOFS.min(generated_cases(Asked::CheckProof));
+    let tallies = in_threads(THREADS, |thread| {
+        let mut tally = Tally::default();
+        for seed in (thread..count).step_by(THREADS as usize) {
+            for case in large_proofs(seed) {
+                let label = format!("seed {seed} {}", case.label);
+                tally.compare(&label, Asked::CheckProof, &case.obligation, &case.second);
+            }
+        }
+        tally
+    });
+    let tally = Tally::sum(tallies);
+    tally.report("large proofs and near misses");
+    assert!(tally.large > count, "{} of hundreds of nodes", tally.large);
+}
+
 /// Random files and damaged ones, at odd addresses too.
 #[test]
 fn raw_bytes() {
-    compare_all("raw", |_| RAW_CASES, |tally, asked, seed| {
-        let (label, files) = raw(asked.kind(), seed);
-        let shift = seed as usize % 3;
-        let [obligation, second] = files.map(|bytes| [&vec![0; shift][..], &bytes[..]].concat());
-        let label = format!("raw {seed} {label}");
-        tally.compare(&label, asked, &obligation[shift..], &second[shift..]);
-    });
+    compare_all(
+        "raw",
+        |_| RAW_CASES,
+        |tally, asked, seed| {
+            let (label, files) = raw(asked.kind(), seed);
+            let shift = seed as usize % 3;
+            let [obligation, second] =
+                files.map(|bytes| [&vec![0; shift][..], &bytes[..]].concat());
+            let label = format!("raw {seed} {label}");
+            tally.compare(&label, asked, &obligation[shift..], &second[shift..]);
+        },
+    );
 }
 
 fn raw(kind: Second, seed: u64) -> (&'static str, [Vec<u8>; 2]) {

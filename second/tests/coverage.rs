@@ -1,12 +1,13 @@
 //! Many generated cases: what they cover, and that labels keep their promises.
 
-use second::coverage::Coverage;
+use second::coverage::{rules, Coverage};
 use second::generate::limits::limits;
-use second::generate::{derivation_case, proof_case};
+use second::generate::{derivation_case, large_proofs, promised, proof_case};
 use second::reader::Second;
 
 const SEEDS: u64 = 20_000;
 const WANTED: u64 = 20;
+const LARGE_SEEDS: u64 = 200;
 
 fn covers(kind: Second) {
     let coverage = Coverage::of_seeds(kind, 0, SEEDS);
@@ -28,6 +29,23 @@ fn proofs() {
 #[test]
 fn derivations() {
     covers(Second::Derivation);
+}
+
+/// Large accepted proofs in number, with all rules, and near misses of them.
+#[test]
+fn large() {
+    let mut coverage = Coverage::new(Second::Proof);
+    let mut of_hundreds = 0;
+    for case in (0..LARGE_SEEDS).flat_map(large_proofs) {
+        let answer = coverage.add(&case);
+        let kept = promised(&case.label).is_none_or(|refusal| refusal == answer.refusal);
+        assert!(kept, "{}: {answer}", case.label);
+        of_hundreds += u64::from(answer.is_accepted() && answer.nodes >= 200);
+    }
+    println!("large {coverage}");
+    assert!(of_hundreds > LARGE_SEEDS);
+    assert!(rules(Second::Proof).all(|rule| coverage.files[rule] > LARGE_SEEDS / 2));
+    assert!((12..=17).all(|refusal| coverage.cases_of(refusal) > 0));
 }
 
 #[test]

@@ -38,7 +38,10 @@ fn main() {
             }
         }
     }
-    for shape in walks().into_iter().filter(|shape| shape.name.contains(&wanted)) {
+    for shape in walks()
+        .into_iter()
+        .filter(|shape| shape.name.contains(&wanted))
+    {
         if in_thread(|| measure(&shape, Asked::CheckProof)) > SLOW {
             slow.push(shape.name);
         }

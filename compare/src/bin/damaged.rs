@@ -14,9 +14,8 @@ fn main() {
         Some(text) => text.parse().expect("a number of cases"),
         None => USUAL_COUNT,
     };
-    let done = in_thread(|| {
-        Asked::ALL.map(|asked| (0..count).map(|seed| run(asked, seed)).sum::<u64>())
-    });
+    let done =
+        in_thread(|| Asked::ALL.map(|asked| (0..count).map(|seed| run(asked, seed)).sum::<u64>()));
     println!("ok {}", done.iter().sum::<u64>());
 }
 

@@ -10,6 +10,7 @@ pub mod expect;
 pub mod expr;
 pub mod gadgets;
 pub mod limits;
+pub mod near;
 pub mod odd;
 pub mod proofs;
 pub mod refute;
@@ -20,6 +21,7 @@ pub mod world;
 pub mod writer;
 
 pub use limits::limit_cases;
+pub use near::large_proofs;
 
 use crate::reader::Second;
 use expect::Expect;

@@ -35,6 +35,7 @@ impl Shape {
 }
 
 /// An obligation and a proof or derivation of it, not yet written.
+#[derive(Clone)]
 pub struct Draft {
     pub hypotheses: Vec<Expr>,
     pub negated_goal: Expr,

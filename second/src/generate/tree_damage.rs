@@ -21,6 +21,7 @@ pub const TREE_DAMAGE: &[(&str, TreeDamage)] = &[
     ("part of another class", part_of_another_class),
     ("part another formula", part_another),
     ("part changed inside", part_changed_inside),
+    ("⊤ for ¬⊥ or back", exchange_truth),
     ("rule changed", change_rule),
     ("node shared", share_node),
     ("node unnamed", unnamed_node),
@@ -274,6 +275,48 @@ fn change_here(world: &mut World, expr: &Expr) -> Expr {
         ALL_TYPES => expr.renumbered(expr.number() % 4 + 1),
         _ => expr.clone(),
     }
+}
+
+/// One ⊤ inside a part becomes ¬⊥, or one ¬⊥ becomes ⊤.
+fn exchange_truth(world: &mut World, draft: &mut Draft) -> Option<Expect> {
+    let nodes = &draft.tree.nodes;
+    let has_truth = |i: usize| nodes[i].parts.iter().any(|part| truths(part) > 0);
+    let node = node_with(world, &draft.tree, has_truth)?;
+    let parts = &mut draft.tree.nodes[node].parts;
+    let part = parts.iter_mut().find(|part| truths(part) > 0)?;
+    let mut left = world.rng.below(truths(part));
+    *part = exchanged(part, &mut left);
+    Some(Expect::Any)
+}
+
+fn is_truth(expr: &Expr) -> bool {
+    expr.is(TOP) || expr.is_not(BOTTOM)
+}
+
+/// How many ⊤ and ¬⊥ there are in it.
+fn truths(expr: &Expr) -> usize {
+    let below = expr.children().iter().map(truths).sum::<usize>();
+    below + usize::from(is_truth(expr))
+}
+
+/// The expression with the ⊤ or ¬⊥ exchanged before which `left` others stand.
+fn exchanged(expr: &Expr, left: &mut usize) -> Expr {
+    match (is_truth(expr), *left) {
+        (true, 0) if expr.is(TOP) => return not(bottom()),
+        (true, 0) => return top(),
+        (true, _) => *left -= 1,
+        _ => {}
+    }
+    let mut children = expr.children().to_vec();
+    for child in &mut children {
+        let inside = truths(child);
+        if *left < inside {
+            *child = exchanged(child, left);
+            break;
+        }
+        *left -= inside;
+    }
+    expr.rebuilt(expr.kind(), children)
 }
 
 fn change_rule(world: &mut World, draft: &mut Draft) -> Option<Expect> {

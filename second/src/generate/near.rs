@@ -1,0 +1,69 @@
+//! Large accepted proofs, and near misses of each: the same proof with one thing changed.
+
+use super::big::many_members;
+use super::expect::Expect;
+use super::proofs::{draft, Draft, Shape};
+use super::rng::Rng;
+use super::tree_damage::TREE_DAMAGE;
+use super::world::World;
+use super::{write, Case, Plan};
+use crate::reader::Second;
+
+/// Near misses of each proof.
+const MISSES: usize = 7;
+
+/// A proof of hundreds of nodes that is accepted, and near misses of it; one in ten is of about 1,024 members.
+pub fn large_proofs(seed: u64) -> Vec<Case> {
+    let mut rng = Rng::new(!seed);
+    let many = rng.chance(10);
+    let mut shape = large_shape(&mut rng);
+    loop {
+        let mut world = World::new(Rng::new(rng.next()));
+        let (draft, expect) = match many {
+            true => many_members(&mut world),
+            false => (draft(&mut world, shape), Expect::Accepted),
+        };
+        if let Some(whole) = written(&mut rng, &world, &draft, expect, "large") {
+            let misses = (0..MISSES).filter_map(|_| near_miss(&mut rng, &mut world, &draft));
+            return std::iter::once(whole).chain(misses).collect();
+        }
+        shape = shape.smaller();
+    }
+}
+
+fn large_shape(rng: &mut Rng) -> Shape {
+    Shape {
+        hypotheses: rng.below(40),
+        depth: *rng.pick(&[1, 2]),
+        budget: rng.range(200, 700),
+        deep: rng.chance(50),
+        weight: *rng.pick(&[40, 60, 200]),
+    }
+}
+
+/// None if it came out too long, or the change can't be made.
+fn near_miss(rng: &mut Rng, world: &mut World, draft: &Draft) -> Option<Case> {
+    let (what, damage) = rng.pick(TREE_DAMAGE);
+    let mut changed = draft.clone();
+    let expect = damage(world, &mut changed)?;
+    written(rng, world, &changed, expect, &format!("large, {what}"))
+}
+
+fn written(
+    rng: &mut Rng,
+    world: &World,
+    draft: &Draft,
+    expect: Expect,
+    what: &str,
+) -> Option<Case> {
+    let plan = Plan {
+        repeat: *rng.pick(&[0, 0, 5]),
+        ..Plan::default()
+    };
+    let written = write(Second::Proof, rng, world, draft, plan)?;
+    Some(Case {
+        label: format!("{} {what}", expect.label()),
+        obligation: written.obligation,
+        second: written.second,
+    })
+}
