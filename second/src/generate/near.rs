@@ -9,10 +9,11 @@ use super::world::World;
 use super::{write, Case, Plan};
 use crate::reader::Second;
 
-/// Near misses of each proof.
+/// Near misses of each accepted proof.
 const MISSES: usize = 7;
 
-/// A proof of hundreds of nodes that is accepted, and near misses of it; one in ten is of about 1,024 members.
+/// A proof of hundreds of nodes that is accepted, and near misses of it. One in ten is of about 1,024 members,
+/// and refused where they are more.
 pub fn large_proofs(seed: u64) -> Vec<Case> {
     let mut rng = Rng::new(!seed);
     let many = rng.chance(10);
@@ -24,8 +25,12 @@ pub fn large_proofs(seed: u64) -> Vec<Case> {
             false => (draft(&mut world, shape), Expect::Accepted),
         };
         if let Some(whole) = written(&mut rng, &world, &draft, expect, "large") {
-            let misses = (0..MISSES).filter_map(|_| near_miss(&mut rng, &mut world, &draft));
-            return std::iter::once(whole).chain(misses).collect();
+            let misses = match expect {
+                Expect::Accepted => MISSES,
+                _ => 0,
+            };
+            let near = (0..misses).filter_map(|_| near_miss(&mut rng, &mut world, &draft));
+            return std::iter::once(whole).chain(near).collect();
         }
         shape = shape.smaller();
     }
