@@ -1,26 +1,44 @@
--- The key of a record: its kind, its atom, and the numbers of its children. Records that are not 0 have equal trees exactly when their keys are equal.
+-- The key of a record: its kind, its atom, and what a table says of its parts, all of them or those that are no types. Where the table has the numbers of
+-- the smaller records, records that are not 0 have equal trees exactly when their keys are equal.
 use Prim.Native.Nat.{ℕ, _+_, _*_, _/_, _%_, _<_, _≤_}
 use mathlib.Core.Path.{_≡_, refl, sym, ap, _∙_}
 use mathlib.Core.List.{List}
-use mathlib.Core.Bool.{Bool, true, false, false≢true}
-use lib.Dec.{eqb}
-use lib.ListN.{length, getD}
+use mathlib.Core.Bool.{Bool, true, false, not, false≢true}
+use lib.Dec.{eqb, ltb}
+use lib.ListN.{length, getD, set}
+use lib.Seq.{getD-set-other}
 use native.Mathlib.Omega.{arith}
-use borrow.Author.Tests.{eqb-true, eq-eqb, lt-ltb, le-ltb}
+use borrow.Author.Tests.{eqb-true, eq-eqb, not-true, not-false}
 use Rattle.equality.specs.declared.Key.{Key}
-use Rattle.equality.specs.Least.{least, least-equal, least-one, least-zero, Numbered}
+use Rattle.equality.specs.Least.{least, least-equal, least-one, Numbered}
 use Rattle.reader.specs.Words.{Reader}
-use Rattle.reader.specs.Tests.{ifEq, ifLt}
+use Rattle.reader.specs.Tests.{ifEq, ifLt, ifTrue}
 use Rattle.reader.specs.Kinds.{role, isSymbol, isNumber}
 use Rattle.reader.specs.At.{roleAt}
 use Rattle.reader.specs.Trees.{lower, child, atom, tree}
-use Rattle.reader.specs.Laws.{tree-step, lower-below}
+use Rattle.reader.specs.Laws.{tree-step, lower-below, child-below}
 use Rattle.reader.specs.SameLaws.{atom-symbol, atom-number, atom-none}
 
 abbrev pub key : ℕ → ℕ → ℕ → ℕ → ℕ → Key
 key k a x y z = record { kind = k; atom = a; first = x; second = y; third = z }
 
--- the key of record i
+-- role q is that of a part of the tree; where types do not count, that of a part that is neither a type nor a chain of types
+unfoldable pub isPart : Bool → ℕ → Bool
+isPart types q = ifLt q 10 false (ifTrue types true (ifEq q 12 false (not (eqb q 16))))
+
+-- the part that word w of record i refers to, 0 for none
+unfoldable pub partAt : Reader → Bool → ℕ → ℕ → ℕ
+partAt rd types i w = ifTrue (isPart types (roleAt rd i w)) (lower rd i w) 0
+
+-- what the table says of it
+unfoldable pub partEntry : Reader → Bool → List ℕ → ℕ → ℕ → ℕ
+partEntry rd types table i w = getD table (partAt rd types i w) 0
+
+-- the key of record i, by what the table says of the smaller records
+unfoldable pub keyFrom : Reader → Bool → List ℕ → ℕ → Key
+keyFrom rd types table i = key (rd i 0) (atom rd i) (partEntry rd types table i 1) (partEntry rd types table i 2) (partEntry rd types table i 3)
+
+-- the same, by the numbers of the parts
 unfoldable pub keyAt : Reader → ℕ → Key
 keyAt rd i = key (rd i 0) (atom rd i) (least rd (child rd i 1)) (least rd (child rd i 2)) (least rd (child rd i 3))
 
@@ -34,6 +52,40 @@ sideOf k = k .kind % 2
 
 unfoldable pub turned : Key → Key
 turned k = key (k .atom) (k .first) (k .second) (k .third) (k .kind / 2)
+
+-- a part is a smaller record
+pub part-below : (rd : Reader) (types : Bool) (i w : ℕ) → 0 < i → partAt rd types i w < i
+unfolding partAt ifTrue
+part-below rd types i w p = go (isPart types (roleAt rd i w))
+  where
+    go : (b : Bool) → elim b as (λ x. ℕ) [ true ↦ lower rd i w | false ↦ 0 ] < i
+    go true = lower-below rd i w p
+    go false = p
+
+-- where types count, the parts are the children
+part-child : (rd : Reader) (i w : ℕ) → partAt rd true i w ≡ child rd i w
+unfolding partAt isPart child ifLt ifTrue
+part-child rd i w = go (ltb (roleAt rd i w) 10)
+  where
+    go : (b : Bool) → _≡_ {A = ℕ} (elim (elim b as (λ x. Bool) [ true ↦ false | false ↦ true ]) as (λ x. ℕ) [ true ↦ lower rd i w | false ↦ 0 ]) (elim b as (λ x. ℕ) [ true ↦ 0 | false ↦ lower rd i w ])
+    go true = refl
+    go false = refl
+
+-- a key needs the table below its record
+pub key-set : (rd : Reader) (types : Bool) (table : List ℕ) (i v j : ℕ) → 0 < j → j ≤ i → keyFrom rd types (set table i v) j ≡ keyFrom rd types table j
+unfolding keyFrom partEntry
+key-set rd types table i v j p h =
+    let part : (w : ℕ) → partEntry rd types (set table i v) j w ≡ partEntry rd types table j w =
+    λ w. getD-set-other table i (partAt rd types j w) v 0 (λ e. omega (arith, part-below rd types j w p)) in
+    rw (part 1, part 2, part 3) refl
+
+-- the table of numbers gives the key by numbers
+pub key-numbers : (rd : Reader) (table : List ℕ) (i n : ℕ) → 0 < i → i ≤ n → Numbered rd table n → keyFrom rd true table i ≡ keyAt rd i
+unfolding keyFrom keyAt partEntry
+key-numbers rd table i n p h t =
+    let part : (w : ℕ) → partEntry rd true table i w ≡ least rd (child rd i w) =
+    λ w. ap (λ x. getD table x 0) (part-child rd i w) ∙ t .holds (child rd i w) (omega (arith, child-below rd i w p)) in
+    rw (part 1, part 2, part 3) refl
 
 module _ (rd : Reader) (i j : ℕ) (p : 0 < i) (q : 0 < j) where
   pub key-tree : keyAt rd i ≡ keyAt rd j → tree rd i ≡ tree rd j
@@ -124,25 +176,30 @@ module _ (rd : Reader) (i k : ℕ) (ek : k ≡ rd i 0) (s : Bool) (es : s ≡ is
     pub atom-of-none : t ≡ false → 0 ≡ atom rd i
     atom-of-none h = atom-none rd i k ek s es no q role-is t et h
 
--- The ways out of `part_of`.
-module _ (rd : Reader) (i k w q : ℕ) (ek : k ≡ rd i 0) (eq : q ≡ role k w) where
-  pub part-none : q < 10 → 0 ≡ least rd (child rd i w)
-  unfolding child roleAt ifLt
-  part-none h = let none : child rd i w ≡ 0 = simp (child, ifLt, ← ek, ← eq, lt-ltb q 10 h) in rw none (sym (least-zero rd))
+-- The ways out of `part_at`.
+module _ (rd : Reader) (types : Bool) (i k w q : ℕ) (ek : k ≡ rd i 0) (eq : q ≡ role k w) (t : Bool) (et : t ≡ isPart types q) where
+  role-at : roleAt rd i w ≡ q
+  unfolding roleAt
+  role-at = rw (← ek) (sym eq)
 
-  module _ (p : 0 < i) (some : 10 ≤ q) (x : ℕ) (ex : x ≡ lower rd i w) where
-    child-is : child rd i w ≡ x
-    unfolding child roleAt ifLt
-    child-is = simp (child, ifLt, ← ek, ← eq, le-ltb q 10 some) (sym ex)
+  pub part-none : not t ≡ true → 0 ≡ partAt rd types i w
+  unfolding partAt ifTrue
+  part-none h = simp (partAt, ifTrue, role-at, ← et, not-true t h)
 
-    pub part-in : (table : List ℕ) → i ≤ length table → x < length table
-    part-in table h = omega (arith, lower-below rd i w p)
+  pub part-is : not t ≡ false → (x : ℕ) → x ≡ lower rd i w → x ≡ partAt rd types i w
+  unfolding partAt ifTrue
+  part-is h x e = simp (partAt, ifTrue, role-at, ← et, not-false t h) e
 
-    pub part-is : (table : List ℕ) (v : ℕ) → Numbered rd table i → v ≡ getD table x 0 → v ≡ least rd (child rd i w)
-    part-is table v n e = rw child-is (e ∙ n .holds x (omega (arith, lower-below rd i w p)))
+-- the entry of a part
+pub part-in : (rd : Reader) (types : Bool) (table : List ℕ) (i w x : ℕ) → 0 < i → i ≤ length table → x ≡ partAt rd types i w → x < length table
+part-in rd types table i w x p h e = omega (arith, part-below rd types i w p)
+
+pub entry-is : (rd : Reader) (types : Bool) (table : List ℕ) (i w x v : ℕ) → x ≡ partAt rd types i w → v ≡ getD table x 0 → v ≡ partEntry rd types table i w
+unfolding partEntry
+entry-is rd types table i w x v e h = rw (← e) h
 
 -- the key that the code puts together
-pub key-is : (rd : Reader) (i k a x y z : ℕ) → k ≡ rd i 0 → a ≡ atom rd i → x ≡ least rd (child rd i 1) → y ≡ least rd (child rd i 2) → z ≡ least rd (child rd i 3) →
-    key k a x y z ≡ keyAt rd i
-unfolding keyAt
-key-is rd i k a x y z ek ea ex ey ez = rw (ek, ea, ex, ey, ez)
+pub key-is : (rd : Reader) (types : Bool) (table : List ℕ) (i k a x y z : ℕ) → k ≡ rd i 0 → a ≡ atom rd i →
+    x ≡ partEntry rd types table i 1 → y ≡ partEntry rd types table i 2 → z ≡ partEntry rd types table i 3 → key k a x y z ≡ keyFrom rd types table i
+unfolding keyFrom
+key-is rd types table i k a x y z ek ea ex ey ez = rw (ek, ea, ex, ey, ez)

@@ -2,3 +2,4 @@ pub mod Tables
 pub mod Least
 pub mod Keys
 pub mod Slots
+pub mod Numbers

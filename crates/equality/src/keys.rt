@@ -1,4 +1,4 @@
-// The key of a record, from the table of the smaller records' numbers; where the search for a key starts and how it goes on.
+// The key of a record, from a table of the smaller records; where the search for a key starts and how it goes on. Types may be left out.
 use crate::Key;
 use crate::tables;
 use reader::kinds;
@@ -8,9 +8,8 @@ ghost use mathlib.Core.Path.{_≡_};
 ghost use Prim.Native.Nat.{_<_, _≤_};
 ghost use lib.ListN.{length};
 ghost use Rattle.reader.specs.Words.{word};
-ghost use Rattle.reader.specs.Trees.{child, atom};
-ghost use Rattle.equality.specs.Least.{least, Numbered};
-ghost use Rattle.equality.specs.Keys.{keyAt, bucketOf, sideOf, turned, sameKey};
+ghost use Rattle.reader.specs.Trees.{atom};
+ghost use Rattle.equality.specs.Keys.{isPart, partAt, partEntry, keyFrom, bucketOf, sideOf, turned, sameKey};
 
 // What tells record i, whose kind is k, from others of its kind.
 fn atom_of(obligation: &[u8], second: &[u8], m: usize, i: usize, k: usize) -> usize
@@ -26,37 +25,78 @@ fn atom_of(obligation: &[u8], second: &[u8], m: usize, i: usize, k: usize) -> us
     0
 }
 
-// The number of what word w of record i, whose kind is k, refers to.
-fn part_of(
+// Is a word of this role a part of the tree? Where types do not count, a type or a chain of types is none.
+fn is_part(types: bool, role: u8) -> bool
+    ensures { λ r. ⌜ r ≡ isPart types role ⌝ }
+{
+    if role < 10 {
+        return false;
+    }
+    if types {
+        return true;
+    }
+    if role == 12 {
+        return false;
+    }
+    role != 16
+}
+
+// The part that word w of record i, whose kind is k, refers to; 0 for none.
+pub fn part_at(
     obligation: &[u8],
     second: &[u8],
     m: usize,
+    types: bool,
+    i: usize,
+    k: usize,
+    w: u8,
+) -> usize
+    requires { ⌜ k ≡ word (now obligation) (now second) m i 0 ⌝ }
+    ensures { λ r. ⌜ r ≡ partAt (word (now (obligation .entry)) (now (second .entry)) m) types i w ⌝ }
+{
+    if !is_part(types, kinds::role_of(k, w)) {
+        return 0;
+    }
+    trees::lower_at(obligation, second, m, i, w)
+}
+
+// What the table says of that part.
+pub fn part_entry(
+    obligation: &[u8],
+    second: &[u8],
+    m: usize,
+    types: bool,
     table: &[usize],
     i: usize,
     k: usize,
     w: u8,
 ) -> usize
-    requires { ⌜ (k ≡ word (now obligation) (now second) m i 0) × (0 < i) × (i ≤ length (now table)) × Numbered (word (now obligation) (now second) m) (now table) i ⌝ }
-    ensures { λ r. ⌜ r ≡ least (word (now (obligation .entry)) (now (second .entry)) m) (child (word (now (obligation .entry)) (now (second .entry)) m) i w) ⌝ }
+    requires { ⌜ (k ≡ word (now obligation) (now second) m i 0) × (0 < i) × (i ≤ length (now table)) ⌝ }
+    ensures { λ r. ⌜ r ≡ partEntry (word (now (obligation .entry)) (now (second .entry)) m) types (now (table .entry)) i w ⌝ }
 {
-    if kinds::role_of(k, w) < 10 {
-        return 0;
-    }
-    tables::entry(table, trees::lower_at(obligation, second, m, i, w))
+    let x = part_at(obligation, second, m, types, i, k, w);
+    tables::entry(table, x)
 }
 
 // The key of record i.
-pub fn key_at(obligation: &[u8], second: &[u8], m: usize, table: &[usize], i: usize) -> Key
-    requires { ⌜ (0 < i) × (i ≤ length (now table)) × Numbered (word (now obligation) (now second) m) (now table) i ⌝ }
-    ensures { λ r. ⌜ r ≡ keyAt (word (now (obligation .entry)) (now (second .entry)) m) i ⌝ }
+pub fn key_at(
+    obligation: &[u8],
+    second: &[u8],
+    m: usize,
+    types: bool,
+    table: &[usize],
+    i: usize,
+) -> Key
+    requires { ⌜ (0 < i) × (i ≤ length (now table)) ⌝ }
+    ensures { λ r. ⌜ r ≡ keyFrom (word (now (obligation .entry)) (now (second .entry)) m) types (now (table .entry)) i ⌝ }
 {
     let kind = words::word_at(obligation, second, m, i, 0);
     Key {
         kind,
         atom: atom_of(obligation, second, m, i, kind),
-        first: part_of(obligation, second, m, table, i, kind, 1),
-        second: part_of(obligation, second, m, table, i, kind, 2),
-        third: part_of(obligation, second, m, table, i, kind, 3),
+        first: part_entry(obligation, second, m, types, table, i, kind, 1),
+        second: part_entry(obligation, second, m, types, table, i, kind, 2),
+        third: part_entry(obligation, second, m, types, table, i, kind, 3),
     }
 }
 

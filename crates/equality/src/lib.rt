@@ -4,7 +4,7 @@ pub mod numbers;
 pub mod slots;
 pub mod tables;
 
-// What tells a record's tree from others: its kind, its atom, and the numbers of its children.
+// What tells a record's tree from others: its kind, its atom, and what a table says of its parts.
 pub struct Key {
     pub kind: usize,
     pub atom: usize,

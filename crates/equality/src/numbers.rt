@@ -71,7 +71,7 @@ pub fn number_all(
     table[0] = 0;
     let mut i: usize = 1;
     while i < table.len() {
-        table[i] = slots::place(obligation, second, m, table, slots, i);
+        table[i] = slots::place(obligation, second, m, true, table, slots, i);
         i += 1;
     }
 }

@@ -7,8 +7,8 @@ ghost use mathlib.Core.Path.{_≡_};
 ghost use Prim.Native.Nat.{_+_, _*_, _<_, _≤_};
 ghost use lib.ListN.{length};
 ghost use Rattle.reader.specs.Words.{word};
-ghost use Rattle.equality.specs.Least.{least, Numbered};
-ghost use Rattle.equality.specs.Slots.{under, Placed, Ended};
+ghost use Rattle.equality.specs.Keys.{keyFrom};
+ghost use Rattle.equality.specs.Slots.{under, Placed, Ended, Put};
 
 // The slot under record j on the side that a key says.
 fn slot_under(j: usize, k: Key) -> usize
@@ -23,19 +23,20 @@ fn slot_of(
     obligation: &[u8],
     second: &[u8],
     m: usize,
+    types: bool,
     table: &[usize],
     slots: &[usize],
     key: Key,
     i: usize,
 ) -> usize
-    requires { ⌜ (i ≤ length (now table)) × (4096 + 2 * i ≤ length (now slots)) × Numbered (word (now obligation) (now second) m) (now table) i × Placed (word (now obligation) (now second) m) (now slots) i ⌝ }
-    ensures { λ r. ⌜ Ended (word (now (obligation .entry)) (now (second .entry)) m) (now (slots .entry)) key i r ⌝ }
+    requires { ⌜ (i ≤ length (now table)) × (4096 + 2 * i ≤ length (now slots)) × Placed (keyFrom (word (now obligation) (now second) m) types (now table)) (now slots) i ⌝ }
+    ensures { λ r. ⌜ Ended (keyFrom (word (now (obligation .entry)) (now (second .entry)) m) types (now (table .entry))) (now (slots .entry)) key i r ⌝ }
 {
     let mut slot = keys::bucket_of(key);
     let mut rest = key;
     let mut j = tables::entry(slots, slot);
     while j != 0 {
-        if keys::same_key(keys::key_at(obligation, second, m, table, j), key) {
+        if keys::same_key(keys::key_at(obligation, second, m, types, table, j), key) {
             return slot;
         }
         slot = slot_under(j, rest);
@@ -45,23 +46,24 @@ fn slot_of(
     slot
 }
 
-// The number of record i; where no smaller record has its tree, i is put in.
+// The record with the key of record i that is in the slots; where there is none, i is put in.
 pub fn place(
     obligation: &[u8],
     second: &[u8],
     m: usize,
+    types: bool,
     table: &[usize],
     slots: &mut [usize],
     i: usize,
 ) -> usize
-    requires { ⌜ (0 < i) × (i ≤ length (now table)) × (4096 + 2 * i ≤ length (now slots)) × Numbered (word (now obligation) (now second) m) (now table) i × Placed (word (now obligation) (now second) m) (now slots) i ⌝ }
-    ensures { λ r. ⌜ (r ≡ least (word (now (obligation .entry)) (now (second .entry)) m) i) × Placed (word (now (obligation .entry)) (now (second .entry)) m) (now (slots .exit)) (i + 1) ⌝ }
+    requires { ⌜ (0 < i) × (i ≤ length (now table)) × (4096 + 2 * i ≤ length (now slots)) × Placed (keyFrom (word (now obligation) (now second) m) types (now table)) (now slots) i ⌝ }
+    ensures { λ r. ⌜ Put (keyFrom (word (now (obligation .entry)) (now (second .entry)) m) types (now (table .entry))) (now (slots .entry)) i r (now (slots .exit)) ⌝ }
 {
-    let key = keys::key_at(obligation, second, m, table, i);
-    let slot = slot_of(obligation, second, m, table, slots, key, i);
+    let key = keys::key_at(obligation, second, m, types, table, i);
+    let slot = slot_of(obligation, second, m, types, table, slots, key, i);
     let j = tables::entry(slots, slot);
     if j != 0 {
-        return tables::entry(table, j);
+        return j;
     }
     slots[slot] = i;
     i

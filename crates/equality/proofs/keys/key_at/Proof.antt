@@ -9,11 +9,11 @@ key-at-spec = tie.close (tie.spec
     (λ c κs. search needs)
     -- atom-of-requires: word-at; 4 args
     (λ c κs. search needs)
-    -- part-of-requires: atom-of; 1 word-at; 5 args
+    -- part-entry-requires: atom-of; 1 word-at; 5 args
     (λ c κs. search needs)
-    -- part-of-requires-2: part-of; 1 atom-of; 2 word-at; 6 args
+    -- part-entry-requires-2: part-entry; 1 atom-of; 2 word-at; 6 args
     (λ c κs. search needs)
-    -- part-of-requires-3: part-of2; 1 part-of; 2 atom-of; 3 word-at; 7 args
+    -- part-entry-requires-3: part-entry2; 1 part-entry; 2 atom-of; 3 word-at; 7 args
     (λ c κs. search needs)
-    -- returns: part-of3; 1 part-of2; 2 part-of; 3 atom-of; 4 word-at; 8 args
+    -- returns: part-entry3; 1 part-entry2; 2 part-entry; 3 atom-of; 4 word-at; 8 args
     (λ c. search key-is))

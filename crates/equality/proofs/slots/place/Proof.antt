@@ -1,7 +1,7 @@
 use borrow.Author.Needs.{needs}
 use native.Mathlib.Omega.{arith}
 use mathlib.Core.Path.{sym, _∙_}
-use Rattle.equality.specs.Slots.{old-below, old-is, old-placed, new-is, new-placed}
+use Rattle.equality.specs.Slots.{old-put, new-put}
 use Rattle.equality.proofs.slots.place.Statement.{statement}
 use Rattle.equality.proofs.slots.place.Tie as tie
 
@@ -13,12 +13,10 @@ place-spec = tie.close (tie.spec
     (λ c κs. search needs)
     -- entry-requires: entry-arg; 1 slot-of; 2 slot-of-arg; 3 key-at; 8 args
     (λ c κs. omega (arith, c .before .slot-of .ensures .inside))
-    -- entry-requires-2: if1; 1 entry; 2 entry-arg; 3 slot-of; 4 slot-of-arg; 5 key-at; 10 args
-    (λ c κs. let p = c .before .before .before .before .before .before .before .before .before .before .pre in omega (arith, old-below _ _ _ _ _ (p .0) (c .before .before .before .before .before .key-at .ensures) (p .4) (c .before .before .before .slot-of .ensures) _ (c .before .entry .ensures) (c .if1 .taken)))
-    -- same-length: entry2; 1 if1; 2 entry; 3 entry-arg; 4 slot-of; 5 slot-of-arg; 6 key-at; 11 args
+    -- same-length: if1; 1 entry; 2 entry-arg; 3 slot-of; 4 slot-of-arg; 5 key-at; 10 args
     (λ c. search needs)
-    -- returns: entry2; 1 if1; 2 entry; 3 entry-arg; 4 slot-of; 5 slot-of-arg; 6 key-at; 11 args
-    (λ c. let p = c .before .before .before .before .before .before .before .before .before .before .before .pre in (old-is _ _ _ _ _ (p .0) (c .before .before .before .before .before .before .key-at .ensures) (p .4) (c .before .before .before .before .slot-of .ensures) _ (c .before .before .entry .ensures) (c .before .if1 .taken) _ _ (p .3) (c .entry2 .ensures), old-placed _ _ _ _ _ (p .0) (c .before .before .before .before .before .before .key-at .ensures) (p .4) (c .before .before .before .before .slot-of .ensures) _ (c .before .before .entry .ensures) (c .before .if1 .taken)))
+    -- returns: if1; 1 entry; 2 entry-arg; 3 slot-of; 4 slot-of-arg; 5 key-at; 10 args
+    (λ c. let p = c .before .before .before .before .before .before .before .before .before .before .pre in old-put _ _ _ _ _ (p .0) (c .before .before .before .before .before .key-at .ensures) (p .3) (c .before .before .before .slot-of .ensures) _ (c .before .entry .ensures) (c .if1 .taken))
     -- mul-slots: if1; 1 entry; 2 entry-arg; 3 slot-of; 4 slot-of-arg; 5 key-at; 10 args
     (λ c. omega (arith, c .before .before .before .slot-of .ensures .inside))
     -- slice-write-slots: if1; 1 entry; 2 entry-arg; 3 slot-of; 4 slot-of-arg; 5 key-at; 10 args
@@ -26,4 +24,4 @@ place-spec = tie.close (tie.spec
     -- same-length-2: if1; 1 entry; 2 entry-arg; 3 slot-of; 4 slot-of-arg; 5 key-at; 10 args
     (λ c. search needs)
     -- returns-2: if1; 1 entry; 2 entry-arg; 3 slot-of; 4 slot-of-arg; 5 key-at; 10 args
-    (λ c. let p = c .before .before .before .before .before .before .before .before .before .before .pre in let free = sym (c .before .entry .ensures) ∙ c .if1 .left in let e = c .before .before .before .slot-of .ensures in (new-is _ _ _ _ _ (p .0) (c .before .before .before .before .before .key-at .ensures) (p .4) e free (omega (arith, e .inside)), new-placed _ _ _ _ _ (p .0) (c .before .before .before .before .before .key-at .ensures) (p .4) e free (omega (arith, e .inside)))))
+    (λ c. let p = c .before .before .before .before .before .before .before .before .before .before .pre in let free = sym (c .before .entry .ensures) ∙ c .if1 .left in let e = c .before .before .before .slot-of .ensures in new-put _ _ _ _ _ (p .0) (c .before .before .before .before .before .key-at .ensures) (p .3) e free (omega (arith, e .inside))))

@@ -1,0 +1,6 @@
+pub mod Erased
+
+pub mod Keys
+pub mod Makers
+pub mod Table
+pub mod Filling
