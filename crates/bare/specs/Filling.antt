@@ -149,9 +149,9 @@ module _ (rd : Reader) (keys slots : List ℕ) (i k : ℕ) (p : 0 < i) (ek : k �
         let one = sym (bare-plain rd x q (own .plain)) ∙ e ∙ bare-plain rd i p plain in
         let same : (w : ℕ) → bareTree rd (partAt rd false x w) ≡ bareTree rd (partAt rd false i w) → partEntry rd false keys x w ≡ partEntry rd false keys i w =
         λ w t.
-            let mine = part x q (omega arith) w in
-            let its = part i p (omega arith) w in
-            key-one rd i _ _ (mine .normal) (its .normal) (mine .means ∙ t ∙ sym (its .means)) in
+        let mine = part x q (omega arith) w in
+        let its = part i p (omega arith) w in
+        key-one rd i _ _ (mine .normal) (its .normal) (mine .means ∙ t ∙ sym (its .means)) in
         let ek : rd x 0 ≡ rd i 0 = cc in
         let ea : atom rd x ≡ atom rd i = cc in
         let e1 : partEntry rd false keys x 1 ≡ partEntry rd false keys i 1 = same 1 (cc) in

@@ -74,7 +74,7 @@ unfolding kindOf
 body-kind rd b h p = rw (body-record rd b h, bare-plain rd (b - 1) (omega arith) p) refl
 
 -- no normal body is a negation
-no-negation : (rd : Reader) (size key : ℕ) → Normal rd size key → kindOf (bodyTree rd (bodyOf key)) ≡ 18 → ⊥
+pub no-negation : (rd : Reader) (size key : ℕ) → Normal rd size key → kindOf (bodyTree rd (bodyOf key)) ≡ 18 → ⊥
 unfolding kindOf
 no-negation rd size key n = by-body (bodyOf key)
     (λ h e. let z : kindOf leaf ≡ 18 = sym (ap kindOf (body-none rd (bodyOf key) h)) ∙ e in omega (arith, z))
