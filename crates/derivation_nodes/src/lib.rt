@@ -1,0 +1,7 @@
+// Refusals 13 to 18 of a derivation, node by node.
+pub mod formed;
+pub mod forms;
+pub mod frames;
+pub mod members;
+pub mod premises;
+pub mod tables;
