@@ -70,8 +70,13 @@ module _ (rd : Reader) (i : ℕ) (p : 0 < i) where
   unfolding bare ifEq
   bare-all h = rw (bare-step rd i p, h) refl
 
-  pub bare-plain : Plain (rd i 0) → bareTree rd i ≡ node (rd i 0) (atom rd i) (bareTree rd (partAt rd false i 1)) (bareTree rd (partAt rd false i 2)) (bareTree rd (partAt rd false i 3))
+  pub bare-node : (rd i 0 ≡ 15 → ⊥) → (rd i 0 ≡ 22 → ⊥) →
+      bareTree rd i ≡ node (rd i 0) (atom rd i) (bareTree rd (partAt rd false i 1)) (bareTree rd (partAt rd false i 2)) (bareTree rd (partAt rd false i 3))
   unfolding bare ifEq
-  bare-plain h =
+  bare-node no-true no-all =
       rw (bare-step rd i p, ← part-bare rd i 1, ← part-bare rd i 2, ← part-bare rd i 3)
-      (simp (bare, ifEq, ne-eqb (rd i 0) 15 (h .no-true), ne-eqb (rd i 0) 22 (h .no-all)))
+      (simp (bare, ifEq, ne-eqb (rd i 0) 15 no-true, ne-eqb (rd i 0) 22 no-all))
+
+  pub bare-plain : Plain (rd i 0) →
+      bareTree rd i ≡ node (rd i 0) (atom rd i) (bareTree rd (partAt rd false i 1)) (bareTree rd (partAt rd false i 2)) (bareTree rd (partAt rd false i 3))
+  bare-plain h = bare-node (h .no-true) (h .no-all)

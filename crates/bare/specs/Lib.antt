@@ -5,3 +5,5 @@ pub mod Table
 pub mod Filling
 pub mod Parts
 pub mod Shapes
+pub mod Reach
+pub mod Reaches
