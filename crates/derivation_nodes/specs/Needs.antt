@@ -49,8 +49,8 @@ needsHeld rd Γ goal n =
     (ifEq (column (rd n 0) 3) 0 true (held Γ (formTree (bareParts rd n) goal (column (rd n 0) 3))))
 
 -- for BR1 no other is there
-unfoldable pub onlyGoals : ℕ → List Tree → Tree → Bool
-onlyGoals k Γ goal = ifEq k 64 (every (λ t. same t goal) Γ) true
+unfoldable pub onlyGoals : Reader → ℕ → List Tree → Tree → Bool
+onlyGoals rd n Γ goal = ifEq (rd n 0) 64 (every (λ t. same t goal) Γ) true
 
 once : (b : Bool) → b ≡ elim b as (λ x. Bool) [ true ↦ true | false ↦ false ]
 once true = refl
@@ -104,14 +104,14 @@ only-other ps st =
     (λ h. refl) (λ h. refl) (λ h. refl) (λ h. refl) (λ h. refl) (λ h. refl) (λ h. refl) (λ h. refl)
     (λ k other h. rw (row-none k ps st other) refl)
 
-pub only-goals : (k : ℕ) (ps : List Tree) (st : Sequent) → onlyGoals k (st .members) (st .goal) ≡ noOther (row k ps st .onlyGoal) st
+pub only-goals : (rd : Reader) (n : ℕ) (ps : List Tree) (st : Sequent) → onlyGoals rd n (st .members) (st .goal) ≡ noOther (row (rd n 0) ps st .onlyGoal) st
 unfolding onlyGoals noOther ifEq ifTrue
-only-goals k ps st = by (eqb k 64) refl
+only-goals rd n ps st = by (rd n 0) (eqb (rd n 0) 64) refl
   where
-    by : (b : Bool) → eqb k 64 ≡ b →
+    by : (k : ℕ) (b : Bool) → eqb k 64 ≡ b →
         elim b as (λ x. Bool) [ true ↦ every (λ t. same t (st .goal)) (st .members) | false ↦ true ] ≡ noOther (row k ps st .onlyGoal) st
-    by true e = rw (eqb-true k 64 e, only-64 ps st) refl
-    by false e = rw (only-other ps st k (eqb-false k 64 e)) refl
+    by k true e = rw (eqb-true k 64 e, only-64 ps st) refl
+    by k false e = rw (only-other ps st k (eqb-false k 64 e)) refl
 
 -- a key that stands for a tree
 pub held-key : (rd : Reader) (size x : ℕ) (t : Tree) (Γ : List Tree) (r : Bool) → KeyOf rd size x t → r ≡ member (decoded rd x) Γ → r ≡ held Γ t
@@ -127,23 +127,19 @@ form-normal rd size goal more x t k = k .stands .normal
 
 -- The ways out of `needs_met`.
 module _ (rd : Reader) (Γ : List Tree) (n k : ℕ) (ek : k ≡ rd n 0) where
-  pub needs-parts : (goal : Tree) → k ≡ 65 → (c : ℕ) (r : Bool) → c ≡ lower rd n 1 → r ≡ every (held Γ) (chainTrees rd c) → r ≡ needsHeld rd Γ goal n
+  pub needs-parts : (t : Tree) → k ≡ 65 → (c : ℕ) (r : Bool) → c ≡ lower rd n 1 → r ≡ every (held Γ) (chainTrees rd c) → r ≡ needsHeld rd Γ t n
   unfolding needsHeld bareParts parts chainTrees
-  needs-parts goal h c r ec e = rw (← ek, ← ec) (eq-yes k 65 _ _ r h e)
+  needs-parts t h c r ec e = rw (← ek, ← ec) (eq-yes k 65 _ _ r h e)
 
-  module _ (other : k ≡ 65 → ⊥) (form : ℕ) (ef : form ≡ column k 3) (key : ℕ) (eg : Tree) where
-    pub needs-none : form ≡ 0 → true ≡ needsHeld rd Γ eg n
+  module _ (other : k ≡ 65 → ⊥) (form : ℕ) (ef : form ≡ column k 3) where
+    pub needs-none : (t : Tree) → form ≡ 0 → true ≡ needsHeld rd Γ t n
     unfolding needsHeld
-    needs-none h = rw (← ek, ← ef) (eq-no k 65 _ _ true other (eq-yes form 0 _ _ true h refl))
+    needs-none t h = rw (← ek, ← ef) (eq-no k 65 _ _ true other (eq-yes form 0 _ _ true h refl))
 
-    pub needs-one : (form ≡ 0 → ⊥) → (r : Bool) → r ≡ held Γ (formTree (bareParts rd n) eg form) → r ≡ needsHeld rd Γ eg n
+    pub needs-one : (form ≡ 0 → ⊥) → (goal : ℕ) (frames : List ℕ) (d : ℕ) → goal ≡ goalAt frames d → (r : Bool) →
+        r ≡ held Γ (formTree (bareParts rd n) (decoded rd goal) form) → r ≡ needsHeld rd Γ (decoded rd (goalAt frames d)) n
     unfolding needsHeld
-    needs-one h r e = rw (← ek, ← ef) (eq-no k 65 _ _ r other (eq-no form 0 _ _ r h e))
-
--- the goal's key is that of the frame
-pub goal-same : (rd : Reader) (frames : List ℕ) (d goal n : ℕ) (Γ : List Tree) (r : Bool) → goal ≡ goalAt frames d → r ≡ needsHeld rd Γ (decoded rd goal) n →
-    r ≡ needsHeld rd Γ (decoded rd (goalAt frames d)) n
-goal-same rd frames d goal n Γ r e q = rw (← e) q
+    needs-one h goal frames d eg r e = rw (← ek, ← ef, ← eg) (eq-no k 65 _ _ r other (eq-no form 0 _ _ r h e))
 
 -- The ways out of `only_goal`.
 agrees-every : (rd : Reader) (goal : ℕ) (Γ : List Tree) → every (agrees rd goal true) Γ ≡ every (λ t. same t (decoded rd goal)) Γ
@@ -151,11 +147,15 @@ unfolding every agrees ifTrue
 agrees-every rd goal [] = refl
 agrees-every rd goal (t ∷ ts) = ap (λ (b : Bool). elim (same t (decoded rd goal)) as (λ x. Bool) [ true ↦ b | false ↦ false ]) (agrees-every rd goal ts)
 
-module _ (rd : Reader) (Γ : List Tree) (k goal : ℕ) where
-  pub only-none : (k ≡ 64 → ⊥) → (t : Tree) → true ≡ onlyGoals k Γ t
+module _ (rd : Reader) (Γ : List Tree) (n k : ℕ) (ek : k ≡ rd n 0) where
+  pub only-none : (k ≡ 64 → ⊥) → (t : Tree) → true ≡ onlyGoals rd n Γ t
   unfolding onlyGoals
-  only-none h t = eq-no k 64 _ _ true h refl
+  only-none h t = rw (← ek) (eq-no k 64 _ _ true h refl)
 
-  pub only-one : k ≡ 64 → (frames : List ℕ) (d : ℕ) → goal ≡ goalAt frames d → (r : Bool) → r ≡ every (agrees rd goal true) Γ → r ≡ onlyGoals k Γ (decoded rd (goalAt frames d))
+  pub only-one : k ≡ 64 → (goal : ℕ) (frames : List ℕ) (d : ℕ) → goal ≡ goalAt frames d → (r : Bool) → r ≡ every (agrees rd goal true) Γ →
+      r ≡ onlyGoals rd n Γ (decoded rd (goalAt frames d))
   unfolding onlyGoals
-  only-one h frames d eg r e = rw (← eg) (eq-yes k 64 _ _ r h (e ∙ agrees-every rd goal Γ))
+  only-one h goal frames d eg r e = rw (← ek, ← eg) (eq-yes k 64 _ _ r h (e ∙ agrees-every rd goal Γ))
+
+pub goal-normal : (rd : Reader) (size : ℕ) (frames : List ℕ) (d goal : ℕ) → Framed rd size frames d → goal ≡ goalAt frames d → Normal rd size goal
+goal-normal rd size frames d goal here e = rw e (here .goal)

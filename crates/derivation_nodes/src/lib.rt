@@ -3,5 +3,6 @@ pub mod formed;
 pub mod forms;
 pub mod frames;
 pub mod members;
+pub mod needs;
 pub mod premises;
 pub mod tables;
