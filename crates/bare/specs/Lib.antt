@@ -7,3 +7,4 @@ pub mod Parts
 pub mod Shapes
 pub mod Reach
 pub mod Reaches
+pub mod Replaced

@@ -4,4 +4,5 @@ pub mod closed;
 pub mod fill;
 pub mod keys;
 pub mod parts;
+pub mod replace;
 pub mod shapes;
