@@ -8,3 +8,4 @@ pub mod Shapes
 pub mod Reach
 pub mod Reaches
 pub mod Replaced
+pub mod Marks
