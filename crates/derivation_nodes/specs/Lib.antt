@@ -7,3 +7,4 @@ pub mod Premises
 pub mod Formed
 pub mod Members
 pub mod Needs
+pub mod Fits

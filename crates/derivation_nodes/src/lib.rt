@@ -1,4 +1,5 @@
 // Refusals 13 to 18 of a derivation, node by node.
+pub mod fits;
 pub mod formed;
 pub mod forms;
 pub mod frames;
