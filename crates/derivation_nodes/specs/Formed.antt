@@ -86,6 +86,12 @@ item-in rd c item size h e p = omega (arith, lower-below rd c 1 (omega arith))
 pub rest-in : (rd : Reader) (c rest size : ℕ) → (c ≡ 0 → ⊥) → rest ≡ lower rd c 3 → c < size → rest < size
 rest-in rd c rest size h e p = omega (arith, lower-below rd c 3 (omega arith))
 
+pub rest-most : (rd : Reader) (c rest top : ℕ) → (c ≡ 0 → ⊥) → rest ≡ lower rd c 3 → c ≤ top → rest ≤ top
+rest-most rd c rest top h e p = omega (arith, lower-below rd c 3 (omega arith))
+
+pub item-falls : (rd : Reader) (c item : ℕ) → (c ≡ 0 → ⊥) → item ≡ lower rd c 1 → item < c
+item-falls rd c item h e = omega (arith, lower-below rd c 1 (omega arith))
+
 pub rest-falls : (rd : Reader) (c rest : ℕ) → (c ≡ 0 → ⊥) → rest ≡ lower rd c 3 → rest < c
 rest-falls rd c rest h e = omega (arith, lower-below rd c 3 (omega arith))
 

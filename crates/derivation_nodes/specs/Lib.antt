@@ -8,3 +8,4 @@ pub mod Formed
 pub mod Members
 pub mod Needs
 pub mod Fits
+pub mod Fresh

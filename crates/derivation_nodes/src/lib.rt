@@ -3,6 +3,7 @@ pub mod fits;
 pub mod formed;
 pub mod forms;
 pub mod frames;
+pub mod fresh;
 pub mod members;
 pub mod needs;
 pub mod premises;
