@@ -7,3 +7,5 @@ pub mod Parts
 pub mod Shapes
 pub mod Reach
 pub mod Reaches
+pub mod Replaced
+pub mod Marks

@@ -6,6 +6,7 @@ use mathlib.Core.Bool.{Bool, true, false}
 use lib.Dec.{eqb}
 use lib.ListN.{length, getD}
 use native.Mathlib.Omega.{arith}
+use borrow.Author.Tests.{ne-eqb}
 use Rattle.reader.specs.Words.{Reader}
 use Rattle.reader.specs.Tests.{ifEq}
 use Rattle.reader.specs.Trees.{Tree, leaf, node, atom, kindOf, atomOf, firstOf, secondOf, thirdOf, ⊥ᵗ, ¬ᵗ_}
@@ -106,22 +107,23 @@ module _ (rd : Reader) (size key : ℕ) where
     few = λ b p q. omega arith;
   }
 
-  module _ (h : 262144 ≤ key) where
-    pub not-first : Normal rd size key → Part rd size key (key - 262144) (firstOf (decoded rd key))
-    unfolding firstOf rank negationsOf bodyOf
-    not-first n = record {
-      stands = record { normal = normal-less rd size key h n; means = rw (as-not rd key h) refl };
+  -- part w of a negation
+  module _ (w : ℕ) (h : 262144 ≤ key) where
+    pub not-first : Normal rd size key → w ≡ 1 → Part rd size key (key - 262144) (partOf w (decoded rd key))
+    unfolding partOf ifEq firstOf rank negationsOf bodyOf
+    not-first n e = record {
+      stands = record { normal = normal-less rd size key h n; means = rw (e, as-not rd key h) refl };
       falls = λ p. omega arith;
       few = λ b p q. omega arith;
     }
 
-    pub not-second : Part rd size key 0 (secondOf (decoded rd key))
-    unfolding secondOf
-    not-second = none-part (secondOf (decoded rd key)) (rw (as-not rd key h) refl)
-
-    pub not-third : Part rd size key 0 (thirdOf (decoded rd key))
-    unfolding thirdOf
-    not-third = none-part (thirdOf (decoded rd key)) (rw (as-not rd key h) refl)
+    pub not-other : (w ≡ 1 → ⊥) → Part rd size key 0 (partOf w (decoded rd key))
+    unfolding partOf ifEq secondOf thirdOf
+    not-other n = none-part (partOf w (decoded rd key)) (rw (as-not rd key h) (simp (partOf, ifEq, ne-eqb w 1 n) (go (eqb w 2))))
+      where
+        go : (b : Bool) → elim b as (λ x. Tree) [ true ↦ leaf | false ↦ leaf ] ≡ leaf
+        go true = refl
+        go false = refl
 
   -- part w of ⊥ or of the empty tree
   pub sign-part : (w : ℕ) → key < 2 → Part rd size key 0 (partOf w (decoded rd key))

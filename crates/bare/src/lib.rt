@@ -3,5 +3,7 @@
 pub mod closed;
 pub mod fill;
 pub mod keys;
+pub mod marks;
 pub mod parts;
+pub mod replace;
 pub mod shapes;

@@ -42,11 +42,24 @@ pub fn atom_of(obligation: &[u8], second: &[u8], m: usize, keys: &[usize], key: 
     trees::atom_at(obligation, second, m, key - 1)
 }
 
-// The key of part w of a tree without ¬ before it.
-fn body_part(obligation: &[u8], second: &[u8], m: usize, keys: &[usize], key: usize, w: u8) -> usize
-    requires { ⌜ Table (word (now obligation) (now second) m) (now keys) × Normal (word (now obligation) (now second) m) (length (now keys)) key × (key < 262144) × (0 < w) × (w < 4) ⌝ }
+// The key of part w.
+pub fn part_of(
+    obligation: &[u8],
+    second: &[u8],
+    m: usize,
+    keys: &[usize],
+    key: usize,
+    w: u8,
+) -> usize
+    requires { ⌜ Table (word (now obligation) (now second) m) (now keys) × Normal (word (now obligation) (now second) m) (length (now keys)) key × (0 < w) × (w < 4) ⌝ }
     ensures { λ r. ⌜ Part (word (now (obligation .entry)) (now (second .entry)) m) (length (now (keys .entry))) key r (partOf w (decoded (word (now (obligation .entry)) (now (second .entry)) m) key)) ⌝ }
 {
+    if 262144 <= key {
+        if w == 1 {
+            return key - 262144;
+        }
+        return 0;
+    }
     if key < 2 {
         return 0;
     }
@@ -60,10 +73,7 @@ pub fn first_of(obligation: &[u8], second: &[u8], m: usize, keys: &[usize], key:
     requires { ⌜ Table (word (now obligation) (now second) m) (now keys) × Normal (word (now obligation) (now second) m) (length (now keys)) key ⌝ }
     ensures { λ r. ⌜ Part (word (now (obligation .entry)) (now (second .entry)) m) (length (now (keys .entry))) key r (firstOf (decoded (word (now (obligation .entry)) (now (second .entry)) m) key)) ⌝ }
 {
-    if 262144 <= key {
-        return key - 262144;
-    }
-    body_part(obligation, second, m, keys, key, 1)
+    part_of(obligation, second, m, keys, key, 1)
 }
 
 // The key of the second part.
@@ -71,10 +81,7 @@ pub fn second_of(obligation: &[u8], second: &[u8], m: usize, keys: &[usize], key
     requires { ⌜ Table (word (now obligation) (now second) m) (now keys) × Normal (word (now obligation) (now second) m) (length (now keys)) key ⌝ }
     ensures { λ r. ⌜ Part (word (now (obligation .entry)) (now (second .entry)) m) (length (now (keys .entry))) key r (secondOf (decoded (word (now (obligation .entry)) (now (second .entry)) m) key)) ⌝ }
 {
-    if 262144 <= key {
-        return 0;
-    }
-    body_part(obligation, second, m, keys, key, 2)
+    part_of(obligation, second, m, keys, key, 2)
 }
 
 // The key of the third part.
@@ -82,8 +89,5 @@ pub fn third_of(obligation: &[u8], second: &[u8], m: usize, keys: &[usize], key:
     requires { ⌜ Table (word (now obligation) (now second) m) (now keys) × Normal (word (now obligation) (now second) m) (length (now keys)) key ⌝ }
     ensures { λ r. ⌜ Part (word (now (obligation .entry)) (now (second .entry)) m) (length (now (keys .entry))) key r (thirdOf (decoded (word (now (obligation .entry)) (now (second .entry)) m) key)) ⌝ }
 {
-    if 262144 <= key {
-        return 0;
-    }
-    body_part(obligation, second, m, keys, key, 3)
+    part_of(obligation, second, m, keys, key, 3)
 }

@@ -1,0 +1,11 @@
+pub mod RowLaws
+pub mod Frames
+pub mod Pushed
+pub mod Tables
+pub mod Forms
+pub mod Premises
+pub mod Formed
+pub mod Members
+pub mod Needs
+pub mod Fits
+pub mod Fresh

@@ -1,0 +1,10 @@
+// Refusals 13 to 18 of a derivation, node by node.
+pub mod fits;
+pub mod formed;
+pub mod forms;
+pub mod frames;
+pub mod fresh;
+pub mod members;
+pub mod needs;
+pub mod premises;
+pub mod tables;
