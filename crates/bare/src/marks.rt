@@ -108,7 +108,11 @@ fn mark_of(obligation: &[u8], second: &[u8], m: usize, marks: &[usize], c: usize
     requires { ⌜ (j ≤ length (now marks)) × Marked (word (now obligation) (now second) m) c (now marks) j ⌝ }
     ensures { λ r. ⌜ r ≡ markOf (occurs c (bareTree (word (now (obligation .entry)) (now (second .entry)) m) j)) ⌝ }
 {
-    if is_in(obligation, second, m, marks, c, j) { 1 } else { 0 }
+    if is_in(obligation, second, m, marks, c, j) {
+        1
+    } else {
+        0
+    }
 }
 
 // Marks the records from c on, below n.

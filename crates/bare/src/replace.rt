@@ -42,7 +42,14 @@ fn same_heads(
 }
 
 // The index that stands for d in the second part of the tree of key j.
-fn deeper_at(obligation: &[u8], second: &[u8], m: usize, keys: &[usize], j: usize, d: usize) -> usize
+fn deeper_at(
+    obligation: &[u8],
+    second: &[u8],
+    m: usize,
+    keys: &[usize],
+    j: usize,
+    d: usize,
+) -> usize
     requires { ⌜ Normal (word (now obligation) (now second) m) (length (now keys)) j × (d < 18446744073709551615) ⌝ }
     ensures { λ r. ⌜ (r ≡ deeper (word (now (obligation .entry)) (now (second .entry)) m) j d) × (r ≤ d + 1) ⌝ }
 {
