@@ -1,15 +1,14 @@
 -- What a record's tree without types is, by the record's kind.
-use Prim.Native.Nat.{ℕ, zero, suc, _<_, _≤_}
-use mathlib.Core.Path.{_≡_, refl, sym, ap, _∙_}
+use Prim.Native.Nat.{ℕ, _<_}
+use mathlib.Core.Path.{_≡_, refl, sym}
 use mathlib.Core.Bool.{Bool, true, false, not}
 use lib.Dec.{eqb, ltb}
-use native.Mathlib.Omega.{arith}
-use borrow.Author.Tests.{eq-eqb, ne-eqb}
+use borrow.Author.Tests.{ne-eqb}
 use Rattle.reader.specs.Words.{Reader}
 use Rattle.reader.specs.Tests.{ifEq, ifLt, ifTrue}
 use Rattle.reader.specs.Kinds.{role}
 use Rattle.reader.specs.At.{roleAt}
-use Rattle.reader.specs.Trees.{Tree, leaf, node, lower, child, atom, tree, ⊥ᵗ, ¬ᵗ_}
+use Rattle.reader.specs.Trees.{Tree, leaf, node, lower, child, atom, ⊥ᵗ, ¬ᵗ_}
 use Rattle.reader.specs.Laws.{tree-zero, tree-step}
 use Rattle.typing.specs.Shapes.{false-tree, not-tree}
 use Rattle.equality.specs.Keys.{isPart, partAt}

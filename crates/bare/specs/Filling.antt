@@ -1,5 +1,5 @@
 -- The ways out of the code that fills the table of keys: records rising, each key from those of smaller records.
-use Prim.Native.Nat.{ℕ, zero, suc, _+_, _*_, _-_, _/_, _%_, _<_, _≤_}
+use Prim.Native.Nat.{ℕ, zero, suc, _+_, _<_, _≤_}
 use mathlib.Core.Path.{_≡_, refl, sym, ap, _∙_}
 use mathlib.Core.List.{List}
 use mathlib.Core.Bool.{Bool, true, false}
@@ -9,11 +9,11 @@ use lib.Seq.{getD-set-same, getD-set-other}
 use native.Mathlib.Omega.{arith}
 use borrow.Author.Tests.{ltb-true, ltb-false}
 use Rattle.reader.specs.Words.{Reader}
-use Rattle.reader.specs.Trees.{Tree, leaf, node, child, atom, ⊥ᵗ, ¬ᵗ_}
+use Rattle.reader.specs.Trees.{child, atom, ⊥ᵗ, ¬ᵗ_}
 use Rattle.reader.specs.Laws.{child-below}
 use Rattle.equality.specs.declared.Key.{Key}
 use Rattle.equality.specs.Tables.{Zeros}
-use Rattle.equality.specs.Least.{leastOf, number-most}
+use Rattle.equality.specs.Least.{leastOf}
 use Rattle.equality.specs.Keys.{partAt, partEntry, keyFrom, part-below}
 use Rattle.equality.specs.Slots.{Placed, Put, Entered, placed-none, placed-next, placed-set, entered-none, entered-next, put-number, put-entered}
 use Rattle.derivation_rules.specs.Erase.{bareTree}

@@ -1,5 +1,5 @@
 -- Keys of the empty tree, of ⊥, of negations and of records.
-use Prim.Native.Nat.{ℕ, zero, suc, _+_, _*_, _-_, _/_, _%_, _<_, _≤_}
+use Prim.Native.Nat.{ℕ, zero, suc, _+_, _-_, _/_, _%_, _<_, _≤_}
 use mathlib.Core.Path.{_≡_, refl, sym, ap, _∙_}
 use mathlib.Core.Bool.{false}
 use native.Mathlib.Omega.{arith}
@@ -98,7 +98,6 @@ module _ (rd : Reader) (i : ℕ) (p : 0 < i) (plain : Plain (rd i 0)) where
       no-true = λ h. plain .no-not (ap kindOf (sym one ∙ bare-true rd l q h));
       no-not = λ h. plain .no-not (ap kindOf (sym one ∙ bare-not rd l q h));
       no-all = λ h.
-          let x = child rd l 2 in
           let same : leastOf (bareTree rd) l ≡ leastOf (bareTree rd) (child rd l 2) = number-equal (bareTree rd) l (child rd l 2) (bare-all rd l q h) in
           omega (arith, number-least (bareTree rd) i, number-most (bareTree rd) (child rd l 2), child-below rd l 2 q);
     };

@@ -1,6 +1,6 @@
 -- Marks of the records that a constant is in, types removed, and the ways out of the code that makes and reads them.
-use Prim.Native.Nat.{ℕ, zero, suc, _+_, _*_, _-_, _/_, _%_, _<_, _≤_}
-use mathlib.Core.Path.{_≡_, refl, sym, ap, _∙_}
+use Prim.Native.Nat.{ℕ, zero, suc, _+_, _-_, _%_, _<_, _≤_}
+use mathlib.Core.Path.{_≡_, refl, sym, _∙_}
 use mathlib.Core.List.{List}
 use mathlib.Core.Bool.{Bool, true, false}
 use lib.Dec.{eqb, ltb}
@@ -11,13 +11,13 @@ use borrow.Author.Tests.{eq-eqb, ne-eqb, eqb-true, eqb-false, ltb-true, ltb-fals
 use Rattle.reader.specs.Words.{Reader}
 use Rattle.reader.specs.Tests.{both, either, ifEq, ifTrue}
 use Rattle.reader.specs.Kinds.{isSymbol}
-use Rattle.reader.specs.Trees.{Tree, leaf, node, child, atom, ⊥ᵗ, ¬ᵗ_}
+use Rattle.reader.specs.Trees.{Tree, child, atom, ¬ᵗ_}
 use Rattle.reader.specs.Variables.{isConstant, occurs}
 use Rattle.reader.specs.Laws.{below, child-below}
 use Rattle.equality.specs.Keys.{partAt, part-below}
 use Rattle.derivation_rules.specs.Erase.{bareTree}
 use Rattle.bare.specs.Erased.{bare-zero, bare-true, bare-all, bare-node}
-use Rattle.bare.specs.Keys.{negationsOf, bodyOf, bodyTree, negate, decoded, Normal, by-body, body-none, body-bottom, body-record}
+use Rattle.bare.specs.Keys.{negationsOf, bodyOf, bodyTree, negate, decoded, by-body, body-none, body-bottom, body-record}
 
 -- the mark of a record: 1 where the constant is in it
 unfoldable pub markOf : Bool → ℕ

@@ -1,5 +1,5 @@
 -- Kind, atom and parts of the tree that a key stands for, and the ways out of the code that reads them.
-use Prim.Native.Nat.{ℕ, zero, suc, _+_, _*_, _-_, _/_, _%_, _<_, _≤_}
+use Prim.Native.Nat.{ℕ, zero, suc, _+_, _-_, _%_, _<_, _≤_}
 use mathlib.Core.Path.{_≡_, refl, sym, ap, _∙_}
 use mathlib.Core.List.{List}
 use mathlib.Core.Bool.{Bool, true, false}
@@ -13,9 +13,9 @@ use Rattle.reader.specs.Trees.{Tree, leaf, node, atom, kindOf, atomOf, firstOf,
 use Rattle.equality.specs.Keys.{partAt, partEntry, part-below}
 use Rattle.derivation_rules.specs.Erase.{bareTree}
 use Rattle.bare.specs.Erased.{Plain, bare-plain}
-use Rattle.bare.specs.Keys.{negationsOf, bodyOf, rank, bodyTree, decoded, Normal, Stands, by-body, body-none, body-bottom, body-record}
+use Rattle.bare.specs.Keys.{negationsOf, bodyOf, rank, decoded, Normal, Stands, by-body, body-none, body-bottom, body-record}
 use Rattle.bare.specs.Makers.{body-is, decoded-body, decoded-more, stands-none, normal-less}
-use Rattle.bare.specs.Table.{KeyOf, Keyed, Table, key-in}
+use Rattle.bare.specs.Table.{KeyOf, Table, key-in}
 
 -- r is the key of t, a part of what `key` stands for
 pub record Part (rd : Reader) (size key r : ℕ) (t : Tree) : Type 0 where
@@ -61,6 +61,11 @@ module _ (rd : Reader) (size key : ℕ) (n : Normal rd size key) (h : 1 < key) (
 
   pub record-in : key - 1 < size
   record-in = omega (arith, n .inside, body-is rd key l)
+
+-- the record of a body has an entry in tables of that length
+pub body-in : (rd : Reader) (size key b n : ℕ) → Normal rd size key → b ≡ key % 262144 → 2 ≤ b → size ≤ n → b - 1 < n
+unfolding bodyOf
+body-in rd size key b n normal e h l = omega (arith, normal .inside)
 
 -- The ways out of `kind_of` and `atom_of`.
 module _ (rd : Reader) (key : ℕ) where
@@ -154,7 +159,6 @@ module _ (rd : Reader) (keys : List ℕ) (key w : ℕ) (table : Table rd keys) (
   pub record-part : (i r : ℕ) → i ≡ key - 1 → r ≡ partEntry rd false keys i w → Part rd (length keys) key r (partOf w (decoded rd key))
   unfolding partEntry rank negationsOf bodyOf
   record-part i r ei er =
-      let x : ℕ = partAt rd false (key - 1) w in
       let below : partAt rd false (key - 1) w < key - 1 = part-below rd false (key - 1) w (omega arith) in
       let inside : key - 1 < length keys = record-in rd (length keys) key n h l in
       let is : r ≡ getD keys (partAt rd false (key - 1) w) 0 = er ∙ rw ei refl in

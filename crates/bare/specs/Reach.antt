@@ -1,13 +1,13 @@
 -- How far the indices of a tree reach: the least d such that every index is below d or bound in the tree. Closedness is a comparison with it.
-use Prim.Native.Nat.{ℕ, zero, suc, _+_, _*_, _-_, _<_, _≤_}
-use mathlib.Core.Path.{_≡_, refl, sym, ap, _∙_}
+use Prim.Native.Nat.{ℕ, _+_, _-_, _≤_}
+use mathlib.Core.Path.{_≡_, refl, sym}
 use mathlib.Core.Bool.{Bool, true, false}
 use lib.Dec.{eqb, ltb, leb}
 use native.Mathlib.Omega.{arith}
 use borrow.Author.Tests.{ltb-true, ltb-false, leb-true, leb-false, le-leb, lt-leb}
 use Rattle.reader.specs.Tests.{both, ifEq, ifLt}
 use Rattle.reader.specs.Trees.{Tree, leaf, node}
-use Rattle.reader.specs.Variables.{binders, isIndex, isBound, indicesBelow, replaced}
+use Rattle.reader.specs.Variables.{binders, isBound, indicesBelow}
 
 -- the larger of two numbers
 unfoldable pub larger : ℕ → ℕ → ℕ
@@ -56,7 +56,7 @@ own-leb k a d = go (eqb k 9)
     go false = sym (le-leb 0 d (omega arith))
 
 -- indices below d, as one step
-indices-both : (d k a : ℕ) (x y z : Tree) →
+pub indices-both : (d k a : ℕ) (x y z : Tree) →
     indicesBelow d (node k a x y z) ≡ both (isBound k a d) (both (indicesBelow d x) (both (indicesBelow (d + binders k) y) (indicesBelow d z)))
 unfolding indicesBelow both
 indices-both d k a x y z = refl

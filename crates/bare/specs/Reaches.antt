@@ -1,17 +1,17 @@
 -- The table of reaches, and the ways out of the code that fills and reads it.
-use Prim.Native.Nat.{ℕ, zero, suc, _+_, _*_, _-_, _/_, _%_, _<_, _≤_}
-use mathlib.Core.Path.{_≡_, refl, sym, ap, _∙_}
+use Prim.Native.Nat.{ℕ, zero, suc, _+_, _*_, _-_, _%_, _<_, _≤_}
+use mathlib.Core.Path.{_≡_, refl, sym, _∙_}
 use mathlib.Core.List.{List}
 use mathlib.Core.Bool.{Bool, true, false}
-use lib.Dec.{eqb, ltb, leb}
+use lib.Dec.{ltb, leb}
 use lib.ListN.{length, getD, set}
 use lib.Seq.{getD-set-same, getD-set-other}
 use native.Mathlib.Omega.{arith}
 use borrow.Author.Tests.{ltb-true, ltb-false, eq-eqb, ne-eqb, lt-ltb, le-ltb}
 use Rattle.reader.specs.Words.{Reader, le32, wordFrom, wordOf, through, word}
-use Rattle.reader.specs.Tests.{ifEq, ifLt, ifTrue}
+use Rattle.reader.specs.Tests.{ifEq, ifLt}
 use Rattle.reader.specs.Kinds.{role, isNumber, isSymbol}
-use Rattle.reader.specs.Trees.{Tree, leaf, node, child, atom, ⊥ᵗ, ¬ᵗ_}
+use Rattle.reader.specs.Trees.{Tree, child, atom, ¬ᵗ_}
 use Rattle.reader.specs.Laws.{child-below}
 use Rattle.reader.specs.Variables.{binders, indicesBelow}
 use Rattle.typing.specs.Shapes.{atom-first}
@@ -19,6 +19,7 @@ use Rattle.equality.specs.Keys.{partAt, partEntry, part-below}
 use Rattle.derivation_rules.specs.Erase.{bareTree}
 use Rattle.bare.specs.Erased.{bare-zero, bare-true, bare-all, bare-node}
 use Rattle.bare.specs.Keys.{negationsOf, bodyOf, bodyTree, negate, decoded, Normal, by-body, body-none, body-bottom, body-record}
+use Rattle.bare.specs.Parts.{body-in}
 use Rattle.bare.specs.Reach.{larger, ownReach, reach, reach-is}
 
 -- the table has the reaches of the records below n
@@ -158,7 +159,7 @@ reach-negate (suc n) t = reach-not (negate n t) ∙ reach-negate n t
 module _ (rd : Reader) (key b : ℕ) (eb : b ≡ key % 262144) where
   reach-body : reach (decoded rd key) ≡ reach (bodyTree rd b)
   unfolding decoded bodyOf
-  reach-body = rw (eb) (reach-negate (negationsOf key) (bodyTree rd (bodyOf key)))
+  reach-body = rw eb (reach-negate (negationsOf key) (bodyTree rd (bodyOf key)))
 
   pub reach-sign : b < 2 → 0 ≡ reach (decoded rd key)
   unfolding reach larger ownReach binders ifEq ifLt
@@ -167,14 +168,10 @@ module _ (rd : Reader) (key b : ℕ) (eb : b ≡ key % 262144) where
       (λ e. rw (body-bottom rd b e) refl)
       (λ e. absurd (omega arith)))
 
-  pub body-in : (size : ℕ) → Normal rd size key → 2 ≤ b → (n : ℕ) → size ≤ n → b - 1 < n
-  unfolding bodyOf
-  body-in size normal h n l = omega (arith, normal .inside)
-
   pub reach-record : (size : ℕ) (reaches : List ℕ) (r : ℕ) → Normal rd size key → size ≤ length reaches → Reached rd reaches (length reaches) → 2 ≤ b →
       r ≡ getD reaches (b - 1) 0 → r ≡ reach (decoded rd key)
   reach-record size reaches r normal l reached h e =
-      rw (reach-body, body-record rd b h) (e ∙ reached .holds (b - 1) (body-in size normal h (length reaches) l))
+      rw (reach-body, body-record rd b h) (e ∙ reached .holds (b - 1) (body-in rd size key b (length reaches) normal eb h l))
 
 pub below-is : (rd : Reader) (key d r : ℕ) → r ≡ reach (decoded rd key) → leb r d ≡ indicesBelow d (decoded rd key)
 below-is rd key d r e = rw e (sym (reach-is d (decoded rd key)))

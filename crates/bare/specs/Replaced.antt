@@ -1,20 +1,21 @@
 -- Replacement tested on keys, as one step, and the ways out of the code that tests it.
-use Prim.Native.Nat.{ℕ, zero, suc, _+_, _*_, _-_, _/_, _%_, _<_, _≤_}
-use mathlib.Core.Path.{_≡_, refl, sym, ap, _∙_}
+use Prim.Native.Nat.{ℕ, zero, suc, _+_, _*_, _<_, _≤_}
+use mathlib.Core.Path.{_≡_, refl, sym, _∙_}
 use mathlib.Core.List.{List}
 use mathlib.Core.Bool.{Bool, true, false, false≢true}
 use lib.Dec.{eqb, ltb}
 use lib.ListN.{length}
 use native.Mathlib.Omega.{arith}
-use borrow.Author.Tests.{eq-eqb, ne-eqb, eqb-true, ltb-true}
+use borrow.Author.Tests.{eq-eqb, ne-eqb, ltb-true}
 use Rattle.reader.specs.Words.{Reader}
 use Rattle.reader.specs.Tests.{both, ifEq}
 use Rattle.reader.specs.Trees.{Tree, leaf, node, kindOf, atomOf, firstOf, secondOf, thirdOf, sameHead, same}
 use Rattle.reader.specs.Variables.{binders, isIndex, isBound, indicesBelow, replaced}
-use Rattle.bare.specs.Keys.{negationsOf, bodyOf, rank, decoded, Normal, Stands, key-one, key-same}
+use Rattle.bare.specs.Keys.{negationsOf, bodyOf, rank, decoded, Normal, key-one, key-same}
 use Rattle.bare.specs.Makers.{stands-none}
 use Rattle.bare.specs.Table.{Table}
 use Rattle.bare.specs.Parts.{Part, partOf, as-none}
+use Rattle.bare.specs.Reach.{indices-both}
 use Rattle.bare.specs.Reaches.{Reached}
 
 -- the tables that the test reads
@@ -82,11 +83,6 @@ bound-index k a d = go (eqb k 9)
     go : (b : Bool) → elim b as (λ x. Bool) [ true ↦ ltb a d | false ↦ true ] ≡ true → elim b as (λ x. Bool) [ true ↦ eqb a d | false ↦ false ] ≡ false
     go true h = ne-eqb a d (λ e. omega (arith, ltb-true a d h))
     go false h = refl
-
-indices-both : (d k a : ℕ) (x y z : Tree) →
-    indicesBelow d (node k a x y z) ≡ both (isBound k a d) (both (indicesBelow d x) (both (indicesBelow (d + binders k) y) (indicesBelow d z)))
-unfolding indicesBelow both
-indices-both d k a x y z = refl
 
 replaced-node : (d : ℕ) (t : Tree) (k a : ℕ) (x y z : Tree) → replaced d t (node k a x y z) ≡
     elim (isIndex k a d) [ true ↦ t | false ↦ node k a (replaced d t x) (replaced (d + binders k) t y) (replaced d t z) ]

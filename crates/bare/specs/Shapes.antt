@@ -1,14 +1,14 @@
 -- Shapes as numbers, and the ways out of the code that tests them on keys.
 use Prim.Native.Nat.{ℕ, _-_, _<_, _≤_}
 use mathlib.Core.Path.{_≡_, refl, sym, ap, _∙_}
-use mathlib.Core.Bool.{Bool, true, false}
+use mathlib.Core.Bool.{false}
 use lib.Dec.{eqb}
 use native.Mathlib.Omega.{arith}
 use borrow.Author.Tests.{ne-eqb, lt-ltb, le-ltb}
 use Rattle.reader.specs.Words.{Reader}
 use Rattle.reader.specs.Tests.{both, ifLt}
 use Rattle.reader.specs.Kinds.{class}
-use Rattle.reader.specs.Trees.{Tree, node, kindOf, firstOf, ¬ᵗ_}
+use Rattle.reader.specs.Trees.{kindOf, firstOf}
 use Rattle.reader.specs.Shapes.{Shape, ofKind, ofClass, negated, hasShape}
 use Rattle.bare.specs.Keys.{bodyOf, bodyTree, decoded, Normal, no-negation}
 use Rattle.bare.specs.Makers.{body-is, decoded-body}

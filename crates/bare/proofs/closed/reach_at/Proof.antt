@@ -1,5 +1,6 @@
 use borrow.Author.Needs.{needs}
-use Rattle.bare.specs.Reaches.{reach-sign, body-in, reach-record}
+use Rattle.bare.specs.Reaches.{reach-sign, reach-record}
+use Rattle.bare.specs.Parts.{body-in}
 use Rattle.bare.proofs.closed.reach_at.Statement.{statement}
 use Rattle.bare.proofs.closed.reach_at.Tie as tie
 

@@ -1,7 +1,7 @@
 use borrow.Author.Needs.{needs}
 use native.Mathlib.Omega.{arith}
 use Rattle.bare.specs.Marks.{key-sign, key-record}
-use Rattle.bare.specs.Reaches.{body-in}
+use Rattle.bare.specs.Parts.{body-in}
 use mathlib.Core.Path.{refl}
 use Rattle.bare.proofs.marks.key_marked.Statement.{statement}
 use Rattle.bare.proofs.marks.key_marked.Tie as tie
@@ -13,6 +13,6 @@ key-marked-spec = tie.close (tie.spec
     -- sub-is-marked: if1; 5 args
     (λ c. search needs)
     -- is-marked-requires: if1; 5 args
-    (λ c κs. let p = c .before .before .before .before .before .pre in (p .1, body-in _ _ _ refl _ (p .0) (c .if1 .left) _ (omega arith), p .2))
+    (λ c κs. let p = c .before .before .before .before .before .pre in (p .1, body-in _ _ _ _ _ (p .0) refl (c .if1 .left) (omega arith), p .2))
     -- returns-2: is-marked; 1 if1; 6 args
     (λ c. search key-record))
