@@ -201,7 +201,7 @@ fn type_instances() -> Shape {
 /// Rule 45 with four heavy types and a heavy instance, over and over.
 fn heavy_types() -> Shape {
     let mut sheet = Sheet::new(Second::Proof);
-    let formula = sheet.doubled(sheet.bottom, 11);
+    let (_, formula) = heavy_terms(&mut sheet);
     let hypothesis = sheet.w.push(ALL_TYPES, 4, formula, 0);
     let ty = sheet.doubled_type(sheet.given, 11);
     let mut branch = Branch::new(sheet, hypothesis);
@@ -222,24 +222,27 @@ fn equalities() -> Shape {
     branch.close("heavy body with t and u (46)")
 }
 
-/// A heavy term: a function of two arguments, of one term twice, over and over.
-fn heavy_term(sheet: &mut Sheet) -> u32 {
+/// Heavy terms, a function of two arguments applied to one term twice, over and over; the last but one, doubled
+/// by =, is as heavy a formula.
+fn heavy_terms(sheet: &mut Sheet) -> (u32, u32) {
     let (given, c) = (sheet.given, sheet.c);
     let types = sheet.w.chain(&[given, given, given]);
     let name = sheet.w.name(b"f");
     let f = sheet.w.push(FUNCTION, types, 0, name);
     let own = sheet.w.chain(&[given]);
-    (0..10).fold(c, |term, _| {
+    let applied = |sheet: &mut Sheet, term: u32| {
         let arguments = sheet.w.chain(&[term, term]);
         sheet.w.push(APPLICATION, f, own, arguments)
-    })
+    };
+    let half = (0..9).fold(c, |term, _| applied(sheet, term));
+    let formula = sheet.w.push(EQUAL, half, half, 0);
+    (applied(sheet, half), formula)
 }
 
 /// Rule 46 with a heavy body without index 0 and a heavy term, over and over.
-fn heavy_terms() -> Shape {
+fn heavy_equalities() -> Shape {
     let mut sheet = Sheet::new(Second::Proof);
-    let formula = sheet.doubled(sheet.bottom, 11);
-    let term = heavy_term(&mut sheet);
+    let (term, formula) = heavy_terms(&mut sheet);
     let mut branch = Branch::new(sheet, formula);
     let parts = [formula, term, term, formula, formula];
     let parts = branch.sheet.w.chain(&parts);
@@ -323,7 +326,7 @@ pub fn walks() -> Vec<Shape> {
         type_instances(),
         heavy_types(),
         equalities(),
-        heavy_terms(),
+        heavy_equalities(),
         heavy_cuts(),
         deepest(),
         deepest_types(),
