@@ -1,5 +1,6 @@
 //! `bench [SYMBOLS [NAME]]`: time per call of the proved code next to the second implementation's, on the
-//! same files: the reading, and for accepted proofs (w) the whole check. At most SYMBOLS symbols where names are measured; only shapes with NAME in their name.
+//! same files: the reading, and for accepted proofs (w) the whole check. At most SYMBOLS symbols where names
+//! are measured; only shapes with NAME in their name.
 
 use compare::shapes::walks::walks;
 use compare::shapes::{shapes, Shape};
@@ -13,7 +14,9 @@ use std::time::{Duration, Instant};
 const ROUNDS: usize = 7;
 /// No further round once this much time has gone.
 const ENOUGH: Duration = Duration::from_secs(3);
-const SLOW: Duration = Duration::from_secs(1);
+/// A reading, or a check, that takes longer is told at the end.
+const SLOW_READING: Duration = Duration::from_secs(1);
+const SLOW_CHECK: Duration = Duration::from_secs(2);
 const USUAL_SYMBOLS: u32 = 4_000;
 
 type Answering = fn(Asked, &[u8], &[u8]) -> Answer;
@@ -25,30 +28,28 @@ fn main() {
         None => USUAL_SYMBOLS,
     };
     let wanted = arguments.next().unwrap_or_default();
-    println!(
-        "{:<52} {:>7} {:>11} {:>11} {:>9} {:>9}  answer",
-        "name", "records", "proved ms", "second ms", "proved ns", "second ns"
-    );
+    let kept = |list: Vec<Shape>| {
+        list.into_iter()
+            .filter(|shape| shape.name.contains(&wanted))
+    };
     let mut slow = Vec::new();
+    println!("{READING_HEAD}");
     for kind in [Second::Proof, Second::Derivation] {
-        let list = shapes(kind, symbols).into_iter();
-        for shape in list.filter(|shape| shape.name.contains(&wanted)) {
-            if in_thread(|| measure(&shape, reading(kind))) > SLOW {
-                slow.push(shape.name);
-            }
+        for shape in kept(shapes(kind, symbols)) {
+            let times = in_thread(|| measure(&shape, reading(kind)));
+            println!("{}", reading_row(&shape, &times));
+            slow.extend((times.proved > SLOW_READING).then_some(shape.name));
         }
     }
-    for shape in walks()
-        .into_iter()
-        .filter(|shape| shape.name.contains(&wanted))
-    {
-        if in_thread(|| measure(&shape, Asked::CheckProof)) > SLOW {
-            slow.push(shape.name);
-        }
+    println!("{CHECK_HEAD}");
+    for shape in kept(walks()) {
+        let times = in_thread(|| measure(&shape, Asked::CheckProof));
+        println!("{}", check_row(&shape, &times));
+        slow.extend((times.proved > SLOW_CHECK).then_some(shape.name));
     }
     match slow.is_empty() {
-        true => println!("none over 1 s"),
-        false => println!("over 1 s: {}", slow.join("; ")),
+        true => println!("no reading over 1 s, no check over 2 s"),
+        false => println!("over 1 s (reading) or 2 s (check): {}", slow.join("; ")),
     }
 }
 
@@ -59,24 +60,55 @@ fn reading(kind: Second) -> Asked {
     }
 }
 
-/// Prints the shape's row; gives back the proved code's time.
-fn measure(shape: &Shape, asked: Asked) -> Duration {
-    let (proved, found) = best(shape, asked, desk::answer);
-    let (second, wanted) = best(shape, asked, Asked::second);
+const READING_HEAD: &str =
+    "reading                                              records   proved ms   second ms proved ns second ns  answer";
+const CHECK_HEAD: &str =
+    "check                                                records nodes   proved ms   second ms nodes a second  ratio";
+
+fn reading_row(shape: &Shape, times: &Times) -> String {
     let records = shape.records();
     let per_record = |time: Duration| time.as_nanos() as f64 / records as f64;
-    println!(
-        "{:<52} {:>7} {:>11.3} {:>11.3} {:>9.1} {:>9.1}  {}",
+    format!(
+        "{:<52} {records:>7} {:>11.3} {:>11.3} {:>9.1} {:>9.1}  {}",
         shape.name,
-        records,
-        milliseconds(proved),
-        milliseconds(second),
-        per_record(proved),
-        per_record(second),
-        found
-    );
-    assert_eq!(found, wanted, "{}", shape.name);
-    proved
+        milliseconds(times.proved),
+        milliseconds(times.second),
+        per_record(times.proved),
+        per_record(times.second),
+        times.answer
+    )
+}
+
+/// The ratio is the proved code's time to the second implementation's.
+fn check_row(shape: &Shape, times: &Times) -> String {
+    let nodes = times.answer.nodes;
+    format!(
+        "{:<52} {:>7} {nodes:>5} {:>11.3} {:>11.3} {:>14.0} {:>6.1}",
+        shape.name,
+        shape.records(),
+        milliseconds(times.proved),
+        milliseconds(times.second),
+        nodes as f64 / times.proved.as_secs_f64(),
+        times.proved.as_secs_f64() / times.second.as_secs_f64()
+    )
+}
+
+struct Times {
+    proved: Duration,
+    second: Duration,
+    answer: Answer,
+}
+
+/// The least time of each; both must answer alike.
+fn measure(shape: &Shape, asked: Asked) -> Times {
+    let (proved, answer) = best(shape, asked, desk::answer);
+    let (second, wanted) = best(shape, asked, Asked::second);
+    assert_eq!(answer, wanted, "{}", shape.name);
+    Times {
+        proved,
+        second,
+        answer,
+    }
 }
 
 fn milliseconds(time: Duration) -> f64 {

@@ -1,22 +1,36 @@
-//! `damaged [N]`: N cases for each question, as they are and damaged, through the proved code, from buffers of
-//! exact length, so that a memory checker sees a read past the end.
+//! `damaged [N]`: N cases for each question, as they are and damaged, and large accepted proofs with their near
+//! misses, through the proved code, from buffers of exact length, so that a memory checker sees a read past the end.
 
 use compare::bytes::{cut, damage, small_case};
 use compare::threads::in_thread;
 use compare::{desk, Asked};
+use second::generate::large_proofs;
 use second::generate::rng::Rng;
 
 const MOST_BYTES: usize = 2_048;
 const USUAL_COUNT: u64 = 300;
+/// So many cases to a large proof.
+const PER_LARGE: u64 = 30;
 
 fn main() {
     let count = match std::env::args().nth(1) {
         Some(text) => text.parse().expect("a number of cases"),
         None => USUAL_COUNT,
     };
-    let done =
-        in_thread(|| Asked::ALL.map(|asked| (0..count).map(|seed| run(asked, seed)).sum::<u64>()));
-    println!("ok {}", done.iter().sum::<u64>());
+    let done = in_thread(|| {
+        let small = Asked::ALL.map(|asked| (0..count).map(|seed| run(asked, seed)).sum::<u64>());
+        small.iter().sum::<u64>() + (0..count / PER_LARGE).map(run_large).sum::<u64>()
+    });
+    println!("ok {done}");
+}
+
+/// A large accepted proof and near misses of it.
+fn run_large(seed: u64) -> u64 {
+    let cases = large_proofs(seed);
+    cases
+        .iter()
+        .for_each(|case| ask(Asked::CheckProof, &case.obligation, &case.second));
+    cases.len() as u64
 }
 
 /// One case as it is, damaged, and cut off at random; each file alone in its buffer.
