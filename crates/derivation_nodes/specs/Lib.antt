@@ -9,3 +9,5 @@ pub mod Members
 pub mod Needs
 pub mod Fits
 pub mod Fresh
+pub mod Rooms
+pub mod Nodes

@@ -6,5 +6,6 @@ pub mod frames;
 pub mod fresh;
 pub mod members;
 pub mod needs;
+pub mod nodes;
 pub mod premises;
 pub mod tables;
