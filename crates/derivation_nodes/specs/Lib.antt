@@ -11,3 +11,4 @@ pub mod Fits
 pub mod Fresh
 pub mod Rooms
 pub mod Nodes
+pub mod Premised

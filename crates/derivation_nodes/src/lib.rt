@@ -8,4 +8,5 @@ pub mod members;
 pub mod needs;
 pub mod nodes;
 pub mod premises;
+pub mod push;
 pub mod tables;
