@@ -9,3 +9,6 @@ pub mod Members
 pub mod Needs
 pub mod Fits
 pub mod Fresh
+pub mod Rooms
+pub mod Nodes
+pub mod Premised

@@ -62,7 +62,7 @@ rules =
 unfoldable pub column : ℕ → ℕ → ℕ
 column k w = ifLt k 64 0 (ifLt 80 k 0 (getD rules (14 * (k - 64) + w) 0))
 
-column-none : (k w : ℕ) → NoRule k → column k w ≡ 0
+pub column-none : (k w : ℕ) → NoRule k → column k w ≡ 0
 unfolding column ifLt
 column-none k w h = go (ltb k 64) refl
   where

@@ -6,5 +6,7 @@ pub mod frames;
 pub mod fresh;
 pub mod members;
 pub mod needs;
+pub mod nodes;
 pub mod premises;
+pub mod push;
 pub mod tables;

@@ -1,0 +1,27 @@
+use borrow.Author.Needs.{needs}
+use native.Mathlib.Omega.{arith}
+use Rattle.reader.specs.Tests.{demands}
+use Rattle.derivation_nodes.specs.Nodes.{form-at}
+use Rattle.derivation_nodes.proofs.nodes.form_fault.Statement.{statement}
+use Rattle.derivation_nodes.proofs.nodes.form_fault.Tie as tie
+
+pub form-fault-spec : {M : Type 1} → statement M
+form-fault-spec = tie.close (tie.spec
+    -- parts-formed-requires: 4 args
+    (λ c κs. search needs)
+    -- returns: if1; 1 parts-formed; 6 args
+    (λ c. search (form-at, demands))
+    -- goal-fits-requires: if1; 1 parts-formed; 6 args
+    (λ c κs. search needs)
+    -- returns-2: if2; 1 goal-fits; 2 if1; 3 parts-formed; 8 args
+    (λ c. search (form-at, demands))
+    -- premises-fit-requires: if2; 1 goal-fits; 2 if1; 3 parts-formed; 8 args
+    (λ c κs. search needs)
+    -- returns-3: if3; 1 premises-fit; 2 if2; 3 goal-fits; 4 if1; 5 parts-formed; 10 args
+    (λ c. search (form-at, demands))
+    -- members-fit-requires: if3; 1 premises-fit; 2 if2; 3 goal-fits; 4 if1; 5 parts-formed; 10 args
+    (λ c κs. search needs)
+    -- returns-4: if4; 1 members-fit; 2 if3; 3 premises-fit; 4 if2; 5 goal-fits; 6 if1; 7 parts-formed; 12 args
+    (λ c. search (form-at, demands))
+    -- returns-5: if4; 1 members-fit; 2 if3; 3 premises-fit; 4 if2; 5 goal-fits; 6 if1; 7 parts-formed; 12 args
+    (λ c. search (form-at, demands)))

@@ -1,0 +1,15 @@
+use borrow.Author.Needs.{needs}
+use native.Mathlib.Omega.{arith}
+use Rattle.derivation_nodes.specs.Needs.{at-given}
+use Rattle.derivation_nodes.specs.Nodes.{fits-at}
+use Rattle.derivation_nodes.proofs.nodes.parts_fit.Statement.{statement}
+use Rattle.derivation_nodes.proofs.nodes.parts_fit.Tie as tie
+
+pub parts-fit-spec : {M : Type 1} → statement M
+parts-fit-spec = tie.close (tie.spec
+    -- goal-at-requires: 5 args
+    (λ c κs. search needs)
+    -- fits-requires: goal-at; 6 args
+    (λ c κs. (search at-given, search needs))
+    -- returns: fits2; 1 goal-at; 7 args
+    (λ c. search fits-at))

@@ -1,0 +1,108 @@
+-- "a premise's sequent over 2,048 members, repeats counted": by the number of members and the table, and the ways out of the code.
+use Prim.Native.Nat.{ℕ, zero, suc, _+_, _-_, _<_, _≤_}
+use mathlib.Core.Path.{_≡_, refl, sym, ap, _∙_}
+use mathlib.Core.List.{List, [], _∷_, _++_, map}
+use mathlib.Core.Bool.{Bool, true, false}
+use lib.Dec.{eqb, leb}
+use lib.ListN.{length, length-append, length-map}
+use native.Mathlib.Omega.{arith}
+use borrow.Author.Tests.{eq-eqb, ne-eqb, eqb-true, eqb-false, leb-true, le-leb, lt-leb}
+use Rattle.reader.specs.Words.{Reader}
+use Rattle.reader.specs.Tests.{both, every, ifEq, ifLt, eq-yes, eq-no}
+use Rattle.reader.specs.Trees.{Tree, lower, firstOf, ¬ᵗ_}
+use Rattle.reader.specs.Chains.{linked, items, parts}
+use Rattle.derivation_rules.specs.Erase.{bareTree, bareParts}
+use Rattle.derivation_rules.specs.Rules.{Sequent, Row, row, at, noRow}
+use Rattle.derivation_rules.specs.Check.{hasRoom}
+use Rattle.derivation_nodes.specs.RowLaws.{row-none, by-rule}
+use Rattle.derivation_nodes.specs.Tables.{column, column-none}
+
+-- the premises of node n have room beside h members; those of BR2 are its parts
+unfoldable pub nodeRoom : Reader → ℕ → ℕ → Bool
+nodeRoom rd h n =
+    ifEq (rd n 0) 65 (leb (length (bareParts rd n)) 2048) (ifEq (column (rd n 0) 2) 0 true (leb (h + column (rd n 0) 13) 2048))
+
+once : (b : Bool) → elim b as (λ x. Bool) [ true ↦ true | false ↦ false ] ≡ b
+once true = refl
+once false = refl
+
+twice : (b : Bool) → elim b as (λ x. Bool) [ true ↦ elim b [ true ↦ true | false ↦ false ] | false ↦ false ] ≡ b
+twice true = refl
+twice false = refl
+
+-- room for one member more is room
+one-more : (h : ℕ) → elim (leb h 2048) as (λ x. Bool) [ true ↦ elim (leb (h + 1) 2048) [ true ↦ true | false ↦ false ] | false ↦ false ] ≡ leb (h + 1) 2048
+one-more h = go (leb (h + 1) 2048) refl
+  where
+    go : (b : Bool) → leb (h + 1) 2048 ≡ b → elim (leb h 2048) as (λ x. Bool) [ true ↦ elim b [ true ↦ true | false ↦ false ] | false ↦ false ] ≡ b
+    go true e =
+        let high : h + 1 ≤ 2048 = leb-true (h + 1) 2048 e in
+        let fits : leb h 2048 ≡ true = le-leb h 2048 (omega arith) in
+        rw fits refl
+    go false e = by (leb h 2048)
+      where
+        by : (a : Bool) → elim a as (λ x. Bool) [ true ↦ elim false as (λ x. Bool) [ true ↦ true | false ↦ false ] | false ↦ false ] ≡ false
+        by true = refl
+        by false = refl
+
+module _ (ps : List Tree) (st : Sequent) where
+  abbrev h : ℕ
+  h = length (st .members)
+
+  none-more : leb h 2048 ≡ leb (h + 0) 2048
+  none-more = let same : h ≡ h + 0 = omega arith in ap (λ (n : ℕ). leb n 2048) same
+
+  added : (t : Tree) → length (st .members ++ (t ∷ [])) ≡ h + 1
+  added t = length-append (st .members) (t ∷ [])
+
+  two : (t : Tree) → elim (leb (length (st .members ++ (t ∷ []))) 2048) as (λ x. Bool) [ true ↦ elim (leb (length (st .members ++ (t ∷ []))) 2048) [ true ↦ true | false ↦ false ] | false ↦ false ]
+      ≡ leb (h + 1) 2048
+  two t = twice (leb (length (st .members ++ (t ∷ []))) 2048) ∙ ap (λ (n : ℕ). leb n 2048) (added t)
+
+  -- the rows say the same
+  room-rule : (k : ℕ) → every hasRoom (row k ps st .premises) ≡ ifEq k 65 (leb (length ps) 2048) (ifEq (column k 2) 0 true (leb (h + column k 13) 2048))
+  unfolding row ifEq ifLt column every hasRoom
+  room-rule =
+      by-rule (λ k. every hasRoom (row k ps st .premises) ≡ ifEq k 65 (leb (length ps) 2048) (ifEq (column k 2) 0 true (leb (h + column k 13) 2048)))
+      refl
+      (once (leb (length ps) 2048))
+      refl
+      (ap (λ (n : ℕ). elim (leb h 2048) as (λ x. Bool) [ true ↦ elim (leb n 2048) [ true ↦ true | false ↦ false ] | false ↦ false ]) (added (at ps 0)) ∙ one-more h)
+      refl
+      (twice (leb h 2048) ∙ none-more)
+      (twice (leb h 2048) ∙ none-more)
+      (once (leb h 2048) ∙ none-more)
+      (once (leb h 2048) ∙ none-more)
+      (ap (λ (n : ℕ). elim (leb n 2048) as (λ x. Bool) [ true ↦ true | false ↦ false ]) (added (firstOf (st .goal))) ∙ once (leb (h + 1) 2048))
+      (once (leb h 2048) ∙ none-more)
+      (two (¬ᵗ (st .goal)))
+      (two (firstOf (st .goal)))
+      (once (leb h 2048) ∙ none-more)
+      (once (leb h 2048) ∙ none-more)
+      (twice (leb h 2048) ∙ none-more)
+      refl
+      (λ k other. rw (row-none k ps st other)
+      (eq-no k 65 _ _ true (λ z. other 65 (omega arith) (omega arith) z) (eq-yes (column k 2) 0 _ _ true (column-none k 2 other) refl)))
+
+pub node-room : (rd : Reader) (n : ℕ) (st : Sequent) → nodeRoom rd (length (st .members)) n ≡ every hasRoom (row (rd n 0) (bareParts rd n) st .premises)
+unfolding nodeRoom
+node-room rd n st = sym (room-rule (bareParts rd n) st (rd n 0))
+
+-- The ways out of `has_room`.
+module _ (rd : Reader) (h n k : ℕ) (ek : k ≡ rd n 0) where
+  parts-length : length (bareParts rd n) ≡ length (linked rd (lower rd n 1))
+  unfolding bareParts parts items
+  parts-length = length-map (items rd (lower rd n 1)) (bareTree rd) ∙ length-map (linked rd (lower rd n 1)) (λ l. lower rd l 1)
+
+  pub room-parts : k ≡ 65 → (c : ℕ) (r : Bool) → c ≡ lower rd n 1 → r ≡ leb (length (linked rd c)) 2048 → r ≡ nodeRoom rd h n
+  unfolding nodeRoom
+  room-parts q c r ec e = rw (← ek) (eq-yes k 65 _ _ r q (e ∙ ap (λ (i : ℕ). leb i 2048) (ap (λ (l : ℕ). length (linked rd l)) ec ∙ sym parts-length)))
+
+  module _ (other : k ≡ 65 → ⊥) (count : ℕ) (ec : count ≡ column k 2) where
+    pub room-none : count ≡ 0 → true ≡ nodeRoom rd h n
+    unfolding nodeRoom
+    room-none q = rw (← ek, ← ec) (eq-no k 65 _ _ true other (eq-yes count 0 _ _ true q refl))
+
+    pub room-some : (count ≡ 0 → ⊥) → (more : ℕ) → more ≡ column k 13 → leb (h + more) 2048 ≡ nodeRoom rd h n
+    unfolding nodeRoom
+    room-some q more em = rw (← ek, ← ec, ← em) (eq-no k 65 _ _ (leb (h + more) 2048) other (eq-no count 0 _ _ (leb (h + more) 2048) q refl))

@@ -1,0 +1,202 @@
+// The refusal of a node at its depth: 13 to 18, the lower number first.
+use crate::fits;
+use crate::formed;
+use crate::frames;
+use crate::fresh;
+use crate::needs;
+use crate::premises;
+use crate::tables;
+use reader::chains;
+use reader::trees;
+use reader::words;
+ghost use mathlib.Core.Path.{_≡_};
+ghost use Prim.Native.Nat.{_≤_};
+ghost use lib.ListN.{length};
+ghost use Rattle.reader.specs.Words.{word};
+ghost use Rattle.bare.specs.Keys.{decoded};
+ghost use Rattle.bare.specs.Replaced.{Tables};
+ghost use Rattle.derivation_rules.specs.Check.{nodeFault};
+ghost use Rattle.derivation_nodes.specs.Frames.{goalAt, membersAt, stateOf};
+ghost use Rattle.derivation_nodes.specs.Needs.{At};
+ghost use Rattle.derivation_nodes.specs.Fits.{nodeFits};
+ghost use Rattle.derivation_nodes.specs.Rooms.{nodeRoom};
+ghost use Rattle.derivation_nodes.specs.Nodes.{Ready, membersFit, goalFits, premisesAt, formFault, fitFault};
+
+// Has the goal the form that the rule of node n shows?
+fn goal_fits(
+    obligation: &[u8],
+    second: &[u8],
+    m: usize,
+    keys: &[usize],
+    frames: &[usize],
+    d: usize,
+    n: usize,
+) -> bool
+    requires { ⌜ At (word (now obligation) (now second) m) (now keys) (now frames) d n ⌝ }
+    ensures { λ r. ⌜ r ≡ goalFits (word (now (obligation .entry)) (now (second .entry)) m) (decoded (word (now (obligation .entry)) (now (second .entry)) m) (goalAt (now (frames .entry)) d)) n ⌝ }
+{
+    let k = words::word_at(obligation, second, m, n, 0);
+    let goal = frames::goal_at(frames, d);
+    formed::goal_formed(obligation, second, m, keys, goal, k)
+}
+
+// Has node n as many premises as its rule, each a rule node?
+fn premises_fit(obligation: &[u8], second: &[u8], m: usize, n: usize) -> bool
+    ensures { λ r. ⌜ r ≡ premisesAt (word (now (obligation .entry)) (now (second .entry)) m) n ⌝ }
+{
+    let k = words::word_at(obligation, second, m, n, 0);
+    let count = tables::column(k, 2);
+    premises::premises_fit(obligation, second, m, n, count)
+}
+
+// Are the members there that node n needs, and for BR1 no other?
+fn members_fit(
+    obligation: &[u8],
+    second: &[u8],
+    m: usize,
+    keys: &[usize],
+    frames: &[usize],
+    d: usize,
+    n: usize,
+) -> bool
+    requires { ⌜ At (word (now obligation) (now second) m) (now keys) (now frames) d n ⌝ }
+    ensures { λ r. ⌜ r ≡ membersFit (word (now (obligation .entry)) (now (second .entry)) m) (membersAt (word (now (obligation .entry)) (now (second .entry)) m) (now (frames .entry)) d) (decoded (word (now (obligation .entry)) (now (second .entry)) m) (goalAt (now (frames .entry)) d)) n ⌝ }
+{
+    if !needs::needs_met(obligation, second, m, keys, frames, d, n) {
+        return false;
+    }
+    needs::only_goal(obligation, second, m, keys, frames, d, n)
+}
+
+// Do the parts of node n fit, as its rule asks?
+fn parts_fit(
+    obligation: &[u8],
+    second: &[u8],
+    m: usize,
+    keys: &[usize],
+    reaches: &[usize],
+    frames: &[usize],
+    d: usize,
+    n: usize,
+) -> bool
+    requires { ⌜ At (word (now obligation) (now second) m) (now keys) (now frames) d n × Tables (word (now obligation) (now second) m) (now keys) (now reaches) ⌝ }
+    ensures { λ r. ⌜ r ≡ nodeFits (word (now (obligation .entry)) (now (second .entry)) m) (decoded (word (now (obligation .entry)) (now (second .entry)) m) (goalAt (now (frames .entry)) d)) n ⌝ }
+{
+    let goal = frames::goal_at(frames, d);
+    fits::fits(obligation, second, m, keys, reaches, goal, n)
+}
+
+// Have the premises of node n room beside h members?
+fn room_beside(obligation: &[u8], second: &[u8], m: usize, h: usize, n: usize) -> bool
+    requires { ⌜ h ≤ 262143 ⌝ }
+    ensures { λ r. ⌜ r ≡ nodeRoom (word (now (obligation .entry)) (now (second .entry)) m) h n ⌝ }
+{
+    let k = words::word_at(obligation, second, m, n, 0);
+    if k == 65 {
+        let c = trees::lower_at(obligation, second, m, n, 1);
+        return chains::at_most(obligation, second, m, c, 2048);
+    }
+    let count = tables::column(k, 2);
+    if count == 0 {
+        return true;
+    }
+    let more = tables::column(k, 13);
+    h + more <= 2048
+}
+
+// Have the premises of node n, at depth d, room?
+fn has_room(
+    obligation: &[u8],
+    second: &[u8],
+    m: usize,
+    keys: &[usize],
+    frames: &[usize],
+    d: usize,
+    n: usize,
+) -> bool
+    requires { ⌜ At (word (now obligation) (now second) m) (now keys) (now frames) d n ⌝ }
+    ensures { λ r. ⌜ r ≡ nodeRoom (word (now (obligation .entry)) (now (second .entry)) m) (length (membersAt (word (now (obligation .entry)) (now (second .entry)) m) (now (frames .entry)) d)) n ⌝ }
+{
+    let h = frames::count_at(frames, d);
+    room_beside(obligation, second, m, h, n)
+}
+
+// Refusals 13 and 14 of node n at depth d, 0 for none.
+fn form_fault(
+    obligation: &[u8],
+    second: &[u8],
+    m: usize,
+    keys: &[usize],
+    frames: &[usize],
+    d: usize,
+    n: usize,
+) -> usize
+    requires { ⌜ At (word (now obligation) (now second) m) (now keys) (now frames) d n ⌝ }
+    ensures { λ r. ⌜ r ≡ formFault (word (now (obligation .entry)) (now (second .entry)) m) (stateOf (word (now (obligation .entry)) (now (second .entry)) m) (now (frames .entry)) d) n ⌝ }
+{
+    if !formed::parts_formed(obligation, second, m, keys, n) {
+        return 13;
+    }
+    if !goal_fits(obligation, second, m, keys, frames, d, n) {
+        return 13;
+    }
+    if !premises_fit(obligation, second, m, n) {
+        return 13;
+    }
+    if !members_fit(obligation, second, m, keys, frames, d, n) {
+        return 14;
+    }
+    0
+}
+
+// Refusals 15 to 18 of node n at depth d, 0 for none. The marks are scratch.
+fn fit_fault(
+    obligation: &[u8],
+    second: &[u8],
+    m: usize,
+    keys: &[usize],
+    reaches: &[usize],
+    frames: &[usize],
+    marks: &mut [usize],
+    d: usize,
+    n: usize,
+) -> usize
+    requires { ⌜ At (word (now obligation) (now second) m) (now keys) (now frames) d n × Ready (word (now obligation) (now second) m) (now keys) (now reaches) (now marks) ⌝ }
+    ensures { λ r. ⌜ r ≡ fitFault (word (now (obligation .entry)) (now (second .entry)) m) (stateOf (word (now (obligation .entry)) (now (second .entry)) m) (now (frames .entry)) d) n ⌝ }
+{
+    if !parts_fit(obligation, second, m, keys, reaches, frames, d, n) {
+        return 15;
+    }
+    if !fresh::constant_fresh(obligation, second, m, keys, frames, marks, d, n) {
+        return 16;
+    }
+    if !has_room(obligation, second, m, keys, frames, d, n) {
+        return 17;
+    }
+    if 8192 < d {
+        return 18;
+    }
+    0
+}
+
+// The refusal of node n at depth d, 0 for none. The marks are scratch.
+pub fn node_fault(
+    obligation: &[u8],
+    second: &[u8],
+    m: usize,
+    keys: &[usize],
+    reaches: &[usize],
+    frames: &[usize],
+    marks: &mut [usize],
+    d: usize,
+    n: usize,
+) -> usize
+    requires { ⌜ At (word (now obligation) (now second) m) (now keys) (now frames) d n × Ready (word (now obligation) (now second) m) (now keys) (now reaches) (now marks) ⌝ }
+    ensures { λ r. ⌜ r ≡ nodeFault (word (now (obligation .entry)) (now (second .entry)) m) (stateOf (word (now (obligation .entry)) (now (second .entry)) m) (now (frames .entry)) d) n ⌝ }
+{
+    let why = form_fault(obligation, second, m, keys, frames, d, n);
+    if why != 0 {
+        return why;
+    }
+    fit_fault(obligation, second, m, keys, reaches, frames, marks, d, n)
+}
