@@ -14,7 +14,7 @@ ghost use Rattle.derivation_nodes.specs.Needs.{At};
 ghost use Rattle.derivation_nodes.specs.Premised.{Passed, Premised, premiseCount};
 
 // How many links chain c has.
-fn chain_length(obligation: &[u8], second: &[u8], m: usize, c: usize) -> usize
+pub fn chain_length(obligation: &[u8], second: &[u8], m: usize, c: usize) -> usize
     ensures { λ r. ⌜ r ≡ length (linked (word (now (obligation .entry)) (now (second .entry)) m) c) ⌝ }
 {
     let mut l = c;

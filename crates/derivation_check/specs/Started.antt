@@ -1,0 +1,190 @@
+-- The start of the walk over a pair that passes places 1 to 12.
+use Prim.Native.Nat.{ℕ, zero, suc, _+_, _*_, _<_, _≤_}
+use mathlib.Core.Path.{_≡_, refl, sym, ap, _∙_}
+use mathlib.Core.List.{List, [], _∷_}
+use mathlib.Core.Bool.{Bool, true, false}
+use lib.ListN.{length, take, replicate, length-replicate}
+use lib.Seq.{length-take-le}
+use native.Mathlib.Omega.{arith}
+use borrow.Author.Tests.{eq-eqb, ne-eqb}
+use Rattle.reader.specs.declared.Answer.{Answer}
+use Rattle.reader.specs.Words.{Reader, wordOf, word}
+use Rattle.reader.specs.Tests.{ifEq}
+use Rattle.reader.specs.Kinds.{isRule}
+use Rattle.reader.specs.Trees.{Tree, lower, child, tree, firstOf}
+use Rattle.reader.specs.Chains.{linked, items}
+use Rattle.reader.specs.Laws.{child-below}
+use Rattle.reader.specs.Answers.{orAnswer}
+use Rattle.reader.specs.Places.{mostRecords, hypothesisChain, negatedGoal, countOf, rootOf, reading}
+use Rattle.typing.specs.Shapes.{first-tree, child-zero}
+use Rattle.accepted.specs.File.{ReadObligation, ReadSecond, beside, lastOf, reading-parts, length-parts, header-parts, counts-parts}
+use Rattle.accepted.specs.Pair.{root-range, pair-goal-range, pair-hypotheses-range, pair-hypotheses-limit}
+use Rattle.accepted.specs.Under.{under, root-under}
+use Rattle.derivation_rules.specs.Erase.{⌊_⌋, bareTree}
+use Rattle.derivation_rules.specs.Rules.{Sequent, sequent}
+use Rattle.derivation_rules.specs.Check.{hypotheses, goalOf, startSequent, nodeFault, premiseState, derivationWalk, derivationAnswer}
+use Rattle.bare.specs.Keys.{decoded, Normal, Stands}
+use Rattle.bare.specs.Table.{Table, KeyOf}
+use Rattle.bare.specs.Reaches.{Reached}
+use Rattle.bare.specs.Replaced.{Tables}
+use Rattle.derivation_nodes.specs.Frames.{goalAt, chainTrees, membersAt, stateOf, Framed, Written}
+use Rattle.derivation_nodes.specs.Pushed.{members-set, framed-set}
+use Rattle.derivation_nodes.specs.Needs.{At}
+use Rattle.derivation_nodes.specs.Nodes.{Ready}
+use Rattle.derivation_nodes.specs.Premised.{chain-length}
+use Rattle.derivation_check.specs.Walked.{visit}
+
+-- the keys are there, and the obligation's header names what it should
+pub record Starting (rd : Reader) (keys frames : List ℕ) : Type 0 where
+  pub table : Table rd keys
+  pub long : length frames ≡ 32776
+  pub chain : hypothesisChain rd < length keys
+  pub goal : negatedGoal rd < length keys
+  pub few : length (linked rd (hypothesisChain rd)) ≤ 256
+
+-- the frame of the root
+pub record Started (rd : Reader) (size : ℕ) (frames : List ℕ) : Type 0 where
+  pub framed : Framed rd size frames 1
+  pub state : stateOf rd frames 1 ≡ startSequent rd
+
+pub formula-in : (rd : Reader) (keys frames : List ℕ) (negated formula : ℕ) → Starting rd keys frames → negated ≡ rd 0 3 → formula ≡ child rd negated 1 → formula < length keys
+formula-in rd keys frames zero formula s en ef = omega (arith, child-zero rd 1, s .goal)
+formula-in rd keys frames (suc negated) formula s en ef =
+    let below : suc negated < length keys = rw en (s .goal) in
+    omega (arith, child-below rd (suc negated) 1 (omega arith))
+
+pub root-written : (rd : Reader) (keys before after : List ℕ) (chain negated formula goal count : ℕ) → Starting rd keys before → chain ≡ rd 0 2 → negated ≡ rd 0 3 → formula ≡ child rd negated 1 →
+    KeyOf rd (length keys) goal (bareTree rd formula) → count ≡ length (linked rd chain) → length after ≡ length before → Written 1 1 goal chain count before after →
+    Started rd (length keys) after
+unfolding stateOf startSequent hypotheses goalOf chainTrees bareTree
+root-written rd keys before after chain negated formula goal count s ec en ef key el l w = record {
+  framed = framed-set rd (length keys) 0 goal chain count before after w (omega arith) (l ∙ s .long) (rw ec (s .chain)) (key .stands .normal)
+      (omega (arith, key .few)) (el ∙ sym (chain-length rd chain)) (omega (arith, el, few));
+  state = rw (members, goal-is) refl;
+}
+  where
+    few : length (linked rd chain) ≤ 256
+    few = rw ec (s .few)
+
+    members : membersAt rd after 1 ≡ hypotheses rd
+    members = members-set rd (length keys) 0 goal chain count before after w ∙ rw ec refl
+
+    goal-is : decoded rd (goalAt after 1) ≡ goalOf rd
+    goal-is = ap (decoded rd) (w .goal-is) ∙ key .stands .means ∙ rw (ef, en, first-tree rd (negatedGoal rd)) refl
+
+-- the pair passes places 1 to 12, and the tables have their lengths
+pub record Entering (ob s : List ℕ) (m : ℕ) (keys reaches frames marks : List ℕ) : Type 0 where
+  pub read : reading 2 ob s .refusal ≡ 0
+  pub counted : m ≡ countOf ob
+  pub all : length keys ≡ m + countOf s + 1
+  pub far : length reaches ≡ 201024
+  pub long : length frames ≡ 32776
+  pub wide : length marks ≡ 201024
+
+-- Pairs that pass places 1 to 12.
+module _ (ob s : List ℕ) (read : reading 2 ob s .refusal ≡ 0) where
+  both-read : ReadObligation ob × ReadSecond 2 ob s
+  both-read = reading-parts 2 ob s read
+
+  obligation-few : countOf ob < 1024
+  unfolding mostRecords ifEq
+  obligation-few =
+      let a = length-parts 0 ob (both-read .0 .lengthOf) in
+      let b = header-parts ob (both-read .0 .header) in
+      omega (arith, a .2, b .1)
+
+  derivation-few : countOf s < 200001
+  unfolding mostRecords ifEq
+  derivation-few =
+      let a = length-parts 2 s (both-read .1 .lengthOf) in
+      let b = header-parts s (counts-parts ob s (both-read .1 .counts) .0) in
+      omega (arith, a .2, b .1)
+
+-- The conditions of the calls of `walk_derivation`.
+module _ (ob s : List ℕ) (m : ℕ) (keys reaches frames marks : List ℕ) (enter : Entering ob s m keys reaches frames marks) where
+  pub enter-small : length keys ≤ 201024
+  enter-small = omega (arith, enter .all, enter .counted, obligation-few ob s (enter .read), derivation-few ob s (enter .read))
+
+  enter-last : length keys ≡ lastOf ob s + 1
+  enter-last = omega (arith, enter .all, enter .counted)
+
+  same-reader : word ob s m ≡ beside ob s
+  same-reader = ap (λ (x : ℕ). word ob s x) (enter .counted)
+
+  pub enter-start : (table : List ℕ) → length table ≡ length keys → Table (word ob s m) table → Starting (word ob s m) table frames
+  enter-start table l n =
+      let p = both-read ob s (enter .read) in
+      let goal = pair-goal-range 2 ob s (p .0) (p .1) in
+      record {
+        table = n;
+        long = enter .long;
+        chain = rw same-reader (omega (arith, enter-last, pair-hypotheses-range 2 ob s (p .0) (p .1)));
+        goal = rw same-reader (omega (arith, enter-last, goal .1));
+        few = rw same-reader (pair-hypotheses-limit 2 ob s (p .0) (p .1));
+      }
+
+  pub enter-at : (table after : List ℕ) (root : ℕ) → length table ≡ length keys → Table (word ob s m) table → Started (word ob s m) (length table) after →
+      root ≡ wordOf s 0 2 → At (word ob s m) table after 1 root
+  enter-at table after root l n started e =
+      let p = both-read ob s (enter .read) in
+      record {
+        table = n;
+        small = omega (arith, enter-small);
+        framed = started .framed;
+        within = omega (arith, enter-last, root-range 2 ob s (p .0) (p .1) .1);
+      }
+
+  pub enter-ready : (table reached : List ℕ) → length table ≡ length keys → length reached ≡ length reaches → Table (word ob s m) table → Reached (word ob s m) reached (length reached) →
+      Ready (word ob s m) table reached marks
+  enter-ready table reached l k n r = record {
+    tables = record { table = n; room = omega (arith, enter-small, enter .far); reached = r };
+    marks-long = omega (arith, enter-small, enter .wide);
+  }
+
+  pub enter-rule : (root : ℕ) → root ≡ wordOf s 0 2 → isRule 2 (word ob s m root 0) ≡ true
+  enter-rule root e = rw (e, same-reader) (both-read ob s (enter .read) .1 .root)
+
+  pub enter-count : (root : ℕ) → root ≡ wordOf s 0 2 → 0 + under 2 (word ob s m) root ≤ 4294967296
+  enter-count root e =
+      let p = both-read ob s (enter .read) in
+      let most : under 2 (beside ob s) (rootOf s) ≤ countOf s = root-under 2 ob s (p .0) (p .1) in
+      rw (e, same-reader) (omega (arith, derivation-few ob s (enter .read)))
+
+pub walked-from : (rd : Reader) (size : ℕ) (s after : List ℕ) (root : ℕ) (r : Answer) → root ≡ wordOf s 0 2 → Started rd size after →
+    r ≡ visit rd root (stateOf rd after 1) 0 → r ≡ derivationWalk rd (rootOf s)
+unfolding derivationWalk visit
+walked-from rd size s after root r er started e = rw (← er, ← started .state) e
+
+-- The ways out of `check_derivation`.
+module _ (ob s : List ℕ) (a : Answer) (ea : a ≡ reading 2 ob s) where
+  pub check-refused : (a .refusal ≡ 0 → ⊥) → a ≡ derivationAnswer ob s
+  unfolding derivationAnswer orAnswer
+  check-refused h = simp (derivationAnswer, orAnswer, ← ea, ne-eqb (a .refusal) 0 h)
+
+  module _ (z : a .refusal ≡ 0) where
+    check-read : reading 2 ob s .refusal ≡ 0
+    check-read = ap (λ (x : Answer). x .refusal) (sym ea) ∙ z
+
+    pub check-walked : (m : ℕ) (r : Answer) → m ≡ wordOf ob 0 1 → r ≡ derivationWalk (word ob s m) (rootOf s) → r ≡ derivationAnswer ob s
+    unfolding derivationAnswer orAnswer
+    check-walked m r em e = simp (derivationAnswer, orAnswer, ← ea, eq-eqb (a .refusal) 0 z, ← em) e
+
+    pub counts-few : (m n : ℕ) → m ≡ wordOf ob 0 1 → n ≡ wordOf s 0 1 → m + n + 1 ≤ 201024
+    counts-few m n em en = omega (arith, obligation-few ob s check-read, derivation-few ob s check-read)
+
+    pub entering : (m n : ℕ) (keys reaches frames marks : List ℕ) → m ≡ wordOf ob 0 1 → n ≡ wordOf s 0 1 → length keys ≡ m + n + 1 → length reaches ≡ 201024 →
+        length frames ≡ 32776 → length marks ≡ 201024 → Entering ob s m keys reaches frames marks
+    entering m n keys reaches frames marks em en l f k w = record { read = check-read; counted = em; all = rw (← en) l; far = f; long = k; wide = w }
+
+-- the part of the table that has keys
+pub part-length : (k : ℕ) → k ≤ 201024 → length {A = ℕ} (take k (replicate 201024 0)) ≡ k
+part-length k h = length-take-le k (replicate 201024 0) (rw long h)
+  where
+    long : length {A = ℕ} (replicate 201024 0) ≡ 201024
+    long = length-replicate {A = ℕ} 201024 0
+
+-- the slots' length
+pub slots-long : (size : ℕ) → size ≤ 201024 → 4096 + 2 * size ≤ length {A = ℕ} (replicate 406144 0)
+slots-long size h =
+    let long : length {A = ℕ} (replicate 406144 0) ≡ 406144 = length-replicate {A = ℕ} 406144 0 in
+    rw long (omega arith)
