@@ -3,7 +3,7 @@
 use std::path::Path;
 
 /// The crates whose archives are linked, as `rt staticlib CRATE` makes them.
-const CRATES: [&str; 2] = ["reading", "proof_check"];
+const CRATES: [&str; 3] = ["reading", "proof_check", "derivation_check"];
 
 fn main() {
     let here = std::env::var("CARGO_MANIFEST_DIR").expect("cargo names the package's directory");

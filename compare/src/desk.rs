@@ -24,6 +24,12 @@ extern "C" {
         proof: *const u8,
         proof_len: usize,
     ) -> u64;
+    fn desk_check_derivation(
+        obligation: *const u8,
+        obligation_len: usize,
+        derivation: *const u8,
+        derivation_len: usize,
+    ) -> u64;
 }
 
 /// The proved code's answer.
@@ -32,6 +38,7 @@ pub fn answer(asked: Asked, obligation: &[u8], second: &[u8]) -> Answer {
         Asked::ReadProof => call(desk_read_proof, obligation, second),
         Asked::ReadDerivation => call(desk_read_derivation, obligation, second),
         Asked::CheckProof => call(desk_check_proof, obligation, second),
+        Asked::CheckDerivation => call(desk_check_derivation, obligation, second),
     }
 }
 

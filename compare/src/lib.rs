@@ -16,16 +16,22 @@ pub enum Asked {
     ReadProof,
     ReadDerivation,
     CheckProof,
+    CheckDerivation,
 }
 
 impl Asked {
-    pub const ALL: [Asked; 3] = [Asked::ReadProof, Asked::ReadDerivation, Asked::CheckProof];
+    pub const ALL: [Asked; 4] = [
+        Asked::ReadProof,
+        Asked::ReadDerivation,
+        Asked::CheckProof,
+        Asked::CheckDerivation,
+    ];
 
     /// The kind of the second file.
     pub fn kind(self) -> Second {
         match self {
             Asked::ReadProof | Asked::CheckProof => Second::Proof,
-            Asked::ReadDerivation => Second::Derivation,
+            Asked::ReadDerivation | Asked::CheckDerivation => Second::Derivation,
         }
     }
 
@@ -35,13 +41,14 @@ impl Asked {
             Asked::ReadProof => second::read_proof(obligation, second),
             Asked::ReadDerivation => second::read_derivation(obligation, second),
             Asked::CheckProof => second::check_proof(obligation, second),
+            Asked::CheckDerivation => second::check_derivation(obligation, second),
         }
     }
 
     /// The answer where the whole check answers so: a reading ends at place 12.
     pub fn of_whole(self, answer: Answer) -> Answer {
         match (self, answer.refusal) {
-            (Asked::CheckProof, _) | (_, 1..=12) => answer,
+            (Asked::CheckProof | Asked::CheckDerivation, _) | (_, 1..=12) => answer,
             _ => Answer::accepted(0),
         }
     }

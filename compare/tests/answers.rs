@@ -25,7 +25,7 @@ const MOST_RAW_BYTES: usize = 600;
 fn generated_cases(asked: Asked) -> u64 {
     match (std::env::var("COMPARE_CASES"), asked) {
         (Ok(text), _) => text.parse().expect("COMPARE_CASES is a number"),
-        (Err(_), Asked::CheckProof) => CHECKED_CASES,
+        (Err(_), Asked::CheckProof | Asked::CheckDerivation) => CHECKED_CASES,
         (Err(_), _) => CASES,
     }
 }
