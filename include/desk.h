@@ -10,7 +10,7 @@
  *            1 length; 2 header; 3 kind; 4 a word out of range; 5 a reference; 6 a chain's length; 7 weight; 8 a name; 9 a name
  *            taken; 10 typing; 11 hypotheses, goal or root; 12 a rule node not named exactly once; then, at a node of the walk:
  *            13 number, class or form of its parts or premises; 14 a needed member; 15 what its parts must fit; 16 a constant
- *            not fresh; 17 a premise of over 1,024 members
+ *            not fresh; 17 a premise of over 1,024 members (2,048 in a derivation); 18 over 8,192 nodes deep, derivations only
  *   file     1 the obligation, 2 the other; 0 on acceptance
  *   record   the record's number, counted through both files, 0 for the file itself; 0 on acceptance
  *   nodes    the rule nodes that the walk entered, the refused one among them; 0 before the walk */
@@ -23,6 +23,10 @@ struct desk_answer {
 
 /* The whole check of a proof: refusals 1 to 17, or acceptance. In libproof_check.a. */
 uint64_t desk_check_proof(const uint8_t *obligation, size_t obligation_length, const uint8_t *proof, size_t proof_length);
+
+/* The whole check of a derivation: refusals 1 to 18 but for 10 of its own records, or acceptance. In libderivation_check.a. It has its tables on the
+ * stack: call it on a stack of at least 16 MiB. */
+uint64_t desk_check_derivation(const uint8_t *obligation, size_t obligation_length, const uint8_t *derivation, size_t derivation_length);
 
 /* Refusals 1 to 12 of an obligation and a proof, or a derivation; 0 where none applies. In libreading.a. */
 uint64_t desk_read_proof(const uint8_t *obligation, size_t obligation_length, const uint8_t *proof, size_t proof_length);
