@@ -16,6 +16,8 @@ use second::Answer;
 const THREADS: u64 = 2;
 const CASES: u64 = 60_000;
 const CHECKED_CASES: u64 = 100_000;
+/// A call of the derivation check clears some megabytes of tables.
+const CHECKED_DERIVATIONS: u64 = 20_000;
 const RAW_CASES: u64 = 30_000;
 /// Each makes some seven pairs.
 const LARGE_PROOFS: u64 = 3_000;
@@ -25,7 +27,8 @@ const MOST_RAW_BYTES: usize = 600;
 fn generated_cases(asked: Asked) -> u64 {
     match (std::env::var("COMPARE_CASES"), asked) {
         (Ok(text), _) => text.parse().expect("COMPARE_CASES is a number"),
-        (Err(_), Asked::CheckProof | Asked::CheckDerivation) => CHECKED_CASES,
+        (Err(_), Asked::CheckProof) => CHECKED_CASES,
+        (Err(_), Asked::CheckDerivation) => CHECKED_DERIVATIONS,
         (Err(_), _) => CASES,
     }
 }
