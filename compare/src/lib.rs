@@ -5,7 +5,6 @@ pub mod desk;
 pub mod shapes;
 pub mod tally;
 pub mod threads;
-pub mod vectors;
 
 use second::reader::Second;
 use second::Answer;

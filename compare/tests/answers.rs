@@ -4,13 +4,13 @@ use compare::bytes::{case, damage, random, random_records, small_case};
 use compare::desk;
 use compare::tally::Tally;
 use compare::threads::{in_thread, in_threads};
-use compare::vectors::{vectors, FILES};
 use compare::Asked;
 use second::generate::large_proofs;
 use second::generate::limits::limits;
 use second::generate::rng::Rng;
 use second::generate::Case;
 use second::reader::Second;
+use second::vectors::{vectors, FILES};
 use second::Answer;
 
 const THREADS: u64 = 2;

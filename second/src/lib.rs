@@ -14,6 +14,7 @@ pub mod reader;
 pub mod replace;
 pub mod sequent;
 pub mod typing;
+pub mod vectors;
 pub mod weight;
 pub mod words;
 

@@ -1,1 +1,1 @@
-// The derivation check. Its definitions and theorems stand in specs/; the code over them follows.
+// The derivation check's definitions, and theorems by computation, stand in specs/; its code is in `derivation_check` and the crates below that.

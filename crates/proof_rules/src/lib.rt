@@ -1,1 +1,1 @@
-// The proof check. Its definitions and theorems stand in specs/; the code over them follows.
+// The proof check's definitions, and theorems by computation, stand in specs/; its code is in `proof_check` and the crates below that.

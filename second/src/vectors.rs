@@ -1,7 +1,7 @@
-//! The vector files of the second implementation.
+//! The cases of the vector files.
 
-use second::reader::Second;
-use second::Answer;
+use crate::reader::Second;
+use crate::Answer;
 use std::path::Path;
 
 pub const FILES: [&str; 3] = ["readings.txt", "special.txt", "pairs.txt"];
@@ -15,10 +15,13 @@ pub struct Vector {
 }
 
 pub fn vectors(file: &str) -> Vec<Vector> {
-    let directory = Path::new(env!("CARGO_MANIFEST_DIR")).join("../second/vectors");
+    let directory = Path::new(env!("CARGO_MANIFEST_DIR")).join("vectors");
     let text = std::fs::read_to_string(directory.join(file)).expect("the vector file is there");
     let lines: Vec<&str> = text.lines().filter(|l| !l.trim().is_empty()).collect();
-    assert!(lines.len().is_multiple_of(4), "{file}: four lines a case");
+    assert!(
+        !lines.is_empty() && lines.len().is_multiple_of(4),
+        "{file}: four lines a case"
+    );
     lines.chunks(4).map(vector).collect()
 }
 
