@@ -82,9 +82,10 @@ kept-both d a b c p q = record { same = λ i h. q .same i h ∙ p .same i h }
 pub kept-less : (d : ℕ) (a b : List ℕ) → Kept (d + 1) a b → Kept d a b
 kept-less d a b p = record { same = λ i h. p .same i (omega arith) }
 
--- the frame of depth d has these words, the frames below it stayed
+-- the frame of depth d has these words, all else stayed
 pub record Written (d start goal entry count : ℕ) (before after : List ℕ) : Type 0 where
   pub below : (i : ℕ) → i < 4 * d → getD after i 0 ≡ getD before i 0
+  pub above : (i : ℕ) → 4 * d + 4 ≤ i → getD after i 0 ≡ getD before i 0
   pub start-is : startAt after d ≡ start
   pub goal-is : goalAt after d ≡ goal
   pub entry-is : entryAt after d ≡ entry

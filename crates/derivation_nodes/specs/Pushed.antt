@@ -38,6 +38,11 @@ module _ (d start goal entry count : ℕ) (frames : List ℕ) where
   abbrev pub four : List ℕ
   four = set three (4 * d + 3) count
 
+  elsewhere : (i : ℕ) → (i ≡ 4 * d → ⊥) → (i ≡ 4 * d + 1 → ⊥) → (i ≡ 4 * d + 2 → ⊥) → (i ≡ 4 * d + 3 → ⊥) → getD four i 0 ≡ getD frames i 0
+  elsewhere i p q r s =
+      getD-set-other three (4 * d + 3) i count 0 (λ z. omega (arith, s, z)) ∙ getD-set-other two (4 * d + 2) i entry 0 (λ z. omega (arith, r, z))
+      ∙ getD-set-other one (4 * d + 1) i goal 0 (λ z. omega (arith, q, z)) ∙ getD-set-other frames (4 * d) i start 0 (λ z. omega (arith, p, z))
+
   pub four-written : 4 * d + 3 < length frames → Written d start goal entry count frames four
   unfolding startAt goalAt entryAt countAt frameWord
   four-written room =
@@ -46,9 +51,8 @@ module _ (d start goal entry count : ℕ) (frames : List ℕ) where
       let l3 : length three ≡ length two = length-set two (4 * d + 2) entry in
       let zero-more : 4 * d + 0 ≡ 4 * d = omega arith in
       record {
-        below = λ i h.
-            getD-set-other three (4 * d + 3) i count 0 (λ z. omega arith) ∙ getD-set-other two (4 * d + 2) i entry 0 (λ z. omega arith)
-            ∙ getD-set-other one (4 * d + 1) i goal 0 (λ z. omega arith) ∙ getD-set-other frames (4 * d) i start 0 (λ z. omega arith);
+        below = λ i h. elsewhere i (λ z. omega arith) (λ z. omega arith) (λ z. omega arith) (λ z. omega arith);
+        above = λ i h. elsewhere i (λ z. omega arith) (λ z. omega arith) (λ z. omega arith) (λ z. omega arith);
         start-is = rw zero-more
             (getD-set-other three (4 * d + 3) (4 * d) count 0 (λ z. omega arith) ∙ getD-set-other two (4 * d + 2) (4 * d) entry 0 (λ z. omega arith)
             ∙ getD-set-other one (4 * d + 1) (4 * d) goal 0 (λ z. omega arith) ∙ getD-set-same frames (4 * d) start 0 (omega arith));
