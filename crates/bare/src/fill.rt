@@ -1,5 +1,5 @@
 // Fills the table of keys: records rising, each key from those of smaller records.
-use equality::slots::place;
+use equality::slots;
 use equality::tables;
 use reader::trees;
 use reader::words;
@@ -15,7 +15,7 @@ fn record_key(
     second: &[u8],
     m: usize,
     keys: &[usize],
-    slots: &mut [usize],
+    slots: &mut [u32],
     i: usize,
 ) -> usize
     requires { ⌜ (0 < i) × (i ≤ length (now keys)) × (i < 262143) × (4096 + 2 * i ≤ length (now slots)) × Filling (word (now obligation) (now second) m) (now keys) (now slots) i ⌝ }
@@ -36,15 +36,15 @@ fn record_key(
         let x = trees::child_at(obligation, second, m, i, 2);
         return tables::entry(keys, x);
     }
-    place(obligation, second, m, false, keys, slots, i) + 1
+    slots::place(obligation, second, m, false, keys, slots, i) + 1
 }
 
 // Fills the table with the keys of all its records; past the end of the files a record reads as zeros. The slots are scratch.
-pub fn key_all(obligation: &[u8], second: &[u8], m: usize, keys: &mut [usize], slots: &mut [usize])
+pub fn key_all(obligation: &[u8], second: &[u8], m: usize, keys: &mut [usize], slots: &mut [u32])
     requires { ⌜ (length (now keys) ≤ 262143) × (4096 + 2 * length (now keys) ≤ length (now slots)) ⌝ }
     ensures { λ _. ⌜ Table (word (now (obligation .entry)) (now (second .entry)) m) (now (keys .exit)) ⌝ }
 {
-    tables::clear(slots);
+    slots::clear(slots);
     if keys.len() == 0 {
         return;
     }

@@ -21,7 +21,7 @@ fn fill_keys(obligation: &[u8], derivation: &[u8], m: usize, keys: &mut [usize])
     requires { ⌜ length (now keys) ≤ 201024 ⌝ }
     ensures { λ _. ⌜ Table (word (now (obligation .entry)) (now (derivation .entry)) m) (now (keys .exit)) ⌝ }
 {
-    let mut slots = [0usize; 406144];
+    let mut slots = [0u32; 406144];
     fill::key_all(obligation, derivation, m, keys, &mut slots);
 }
 

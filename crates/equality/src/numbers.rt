@@ -59,12 +59,12 @@ pub fn number_all(
     second: &[u8],
     m: usize,
     table: &mut [usize],
-    slots: &mut [usize],
+    slots: &mut [u32],
 )
-    requires { ⌜ 4096 + 2 * length (now table) ≤ length (now slots) ⌝ }
+    requires { ⌜ (length (now table) ≤ 4294967296) × (4096 + 2 * length (now table) ≤ length (now slots)) ⌝ }
     ensures { λ _. ⌜ Numbered (word (now (obligation .entry)) (now (second .entry)) m) (now (table .exit)) (length (now (table .exit))) ⌝ }
 {
-    tables::clear(slots);
+    slots::clear(slots);
     if table.len() == 0 {
         return;
     }

@@ -2,13 +2,32 @@
 // the parts of a key have bits: each turn goes left or right by another bit.
 use crate::Key;
 use crate::keys;
-use crate::tables;
 ghost use mathlib.Core.Path.{_≡_};
 ghost use Prim.Native.Nat.{_+_, _*_, _<_, _≤_};
-ghost use lib.ListN.{length};
+ghost use lib.ListN.{length, getD};
 ghost use Rattle.reader.specs.Words.{word};
 ghost use Rattle.equality.specs.Keys.{keyFrom};
 ghost use Rattle.equality.specs.Slots.{under, Placed, Ended, Put};
+ghost use Rattle.equality.specs.Tables.{Zeros};
+
+// Makes every slot free.
+pub fn clear(slots: &mut [u32])
+    ensures { λ _. ⌜ Zeros (now (slots .exit)) ⌝ }
+{
+    let mut k: usize = 0;
+    while k < slots.len() {
+        slots[k] = 0;
+        k += 1;
+    }
+}
+
+// The record in slot k, 0 for none.
+pub fn record_in(slots: &[u32], k: usize) -> usize
+    requires { ⌜ k < length (now slots) ⌝ }
+    ensures { λ r. ⌜ r ≡ getD (now (slots .entry)) k 0 ⌝ }
+{
+    slots[k] as usize
+}
 
 // The slot under record j on the side that a key says.
 fn slot_under(j: usize, k: Key) -> usize
@@ -25,7 +44,7 @@ fn slot_of(
     m: usize,
     types: bool,
     table: &[usize],
-    slots: &[usize],
+    slots: &[u32],
     key: Key,
     i: usize,
 ) -> usize
@@ -34,14 +53,14 @@ fn slot_of(
 {
     let mut slot = keys::bucket_of(key);
     let mut rest = key;
-    let mut j = tables::entry(slots, slot);
+    let mut j = record_in(slots, slot);
     while j != 0 {
         if keys::same_key(keys::key_at(obligation, second, m, types, table, j), key) {
             return slot;
         }
         slot = slot_under(j, rest);
         rest = keys::turned(rest);
-        j = tables::entry(slots, slot);
+        j = record_in(slots, slot);
     }
     slot
 }
@@ -53,18 +72,18 @@ pub fn place(
     m: usize,
     types: bool,
     table: &[usize],
-    slots: &mut [usize],
+    slots: &mut [u32],
     i: usize,
 ) -> usize
-    requires { ⌜ (0 < i) × (i ≤ length (now table)) × (4096 + 2 * i ≤ length (now slots)) × Placed (keyFrom (word (now obligation) (now second) m) types (now table)) (now slots) i ⌝ }
+    requires { ⌜ (0 < i) × (i < 4294967296) × (i ≤ length (now table)) × (4096 + 2 * i ≤ length (now slots)) × Placed (keyFrom (word (now obligation) (now second) m) types (now table)) (now slots) i ⌝ }
     ensures { λ r. ⌜ Put (keyFrom (word (now (obligation .entry)) (now (second .entry)) m) types (now (table .entry))) (now (slots .entry)) i r (now (slots .exit)) ⌝ }
 {
     let key = keys::key_at(obligation, second, m, types, table, i);
     let slot = slot_of(obligation, second, m, types, table, slots, key, i);
-    let j = tables::entry(slots, slot);
+    let j = record_in(slots, slot);
     if j != 0 {
         return j;
     }
-    slots[slot] = i;
+    slots[slot] = i as u32;
     i
 }

@@ -73,15 +73,16 @@ pub fn obligation_reading(obligation: &[u8]) -> Answer
     }
     let m = words::word_of(obligation, 0, 1);
     let mut numbers = [0usize; 1024];
-    let mut scratch = [0usize; 6144];
-    number_all(obligation, &obligation[0..0], m, &mut numbers, &mut scratch);
+    let mut slots = [0u32; 6144];
+    number_all(obligation, &obligation[0..0], m, &mut numbers, &mut slots);
+    let mut seen = [0usize; 1024];
     let mut table = [0u16; 1024];
     obligation_body(
         obligation,
         &obligation[0..0],
         m,
         &numbers,
-        &mut scratch,
+        &mut seen,
         &mut table,
     )
 }
@@ -184,8 +185,9 @@ pub fn read_proof(obligation: &[u8], proof: &[u8]) -> Answer
     }
     let m = words::word_of(obligation, 0, 1);
     let mut numbers = [0usize; 4096];
-    let mut scratch = [0usize; 12288];
-    number_all(obligation, proof, m, &mut numbers, &mut scratch);
+    let mut slots = [0u32; 12288];
+    number_all(obligation, proof, m, &mut numbers, &mut slots);
+    let mut seen = [0usize; 4096];
     let mut table = [0u16; 4096];
     let mut named = [0u8; 4096];
     let mut passed = [0u8; 4096];
@@ -195,7 +197,7 @@ pub fn read_proof(obligation: &[u8], proof: &[u8]) -> Answer
         m,
         1,
         &numbers,
-        &mut scratch,
+        &mut seen,
         &mut table,
         &mut named,
         &mut passed,
@@ -212,7 +214,7 @@ pub fn read_derivation(obligation: &[u8], derivation: &[u8]) -> Answer
     }
     let m = words::word_of(obligation, 0, 1);
     let numbers = [0usize; 1];
-    let mut scratch = [0usize; 1];
+    let mut seen = [0usize; 1];
     let mut table = [0u16; 201024];
     let mut named = [0u8; 201024];
     let mut passed = [0u8; 201024];
@@ -222,7 +224,7 @@ pub fn read_derivation(obligation: &[u8], derivation: &[u8]) -> Answer
         m,
         2,
         &numbers,
-        &mut scratch,
+        &mut seen,
         &mut table,
         &mut named,
         &mut passed,

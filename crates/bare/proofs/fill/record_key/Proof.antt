@@ -27,7 +27,7 @@ record-key-spec = tie.close (tie.spec
     -- returns-4: entry2; 1 child-at2; 2 if4; 3 if3; 4 if2; 5 if1; 6 word-at; 11 args
     (λ c. let p = c .before .before .before .before .before .before .before .before .before .before .before .pre in made-all _ _ _ _ _ (p .0) (c .before .before .before .before .before .before .word-at .ensures) (p .4) (c .before .before .if4 .taken) _ _ (c .before .child-at2 .ensures) (c .entry2 .ensures))
     -- place-requires: place-arg; 1 if4; 2 if3; 3 if2; 4 if1; 5 word-at; 10 args
-    (λ c κs. let p = c .before .before .before .before .before .before .before .before .before .before .pre in (p .0, p .1, p .3, p .4 .placed))
+    (λ c κs. let p = c .before .before .before .before .before .before .before .before .before .before .pre in (p .0, omega (arith, p .2), p .1, p .3, p .4 .placed))
     -- add-result-2: 1 slots; 2 place; 3 place-arg; 4 if4; 5 if3; 6 if2; 7 if1; 8 word-at; 13 args
     (λ c. omega (arith, c .before .before .place .ensures .most))
     -- same-length: 1 slots; 2 place; 3 place-arg; 4 if4; 5 if3; 6 if2; 7 if1; 8 word-at; 13 args

@@ -11,17 +11,19 @@ place-spec = tie.close (tie.spec
     (λ c κs. search needs)
     -- slot-of-requires: slot-of-arg; 1 key-at; 6 args
     (λ c κs. search needs)
-    -- entry-requires: entry-arg; 1 slot-of; 2 slot-of-arg; 3 key-at; 8 args
+    -- record-in-requires: record-in-arg; 1 slot-of; 2 slot-of-arg; 3 key-at; 8 args
     (λ c κs. omega (arith, c .before .slot-of .ensures .inside))
-    -- same-length: if1; 1 entry; 2 entry-arg; 3 slot-of; 4 slot-of-arg; 5 key-at; 10 args
+    -- same-length: if1; 1 record-in; 2 record-in-arg; 3 slot-of; 4 slot-of-arg; 5 key-at; 10 args
     (λ c. search needs)
-    -- returns: if1; 1 entry; 2 entry-arg; 3 slot-of; 4 slot-of-arg; 5 key-at; 10 args
-    (λ c. let p = c .before .before .before .before .before .before .before .before .before .before .pre in old-put _ _ _ _ _ (p .0) (c .before .before .before .before .before .key-at .ensures) (p .3) (c .before .before .before .slot-of .ensures) _ (c .before .entry .ensures) (c .if1 .taken))
-    -- mul-slots: if1; 1 entry; 2 entry-arg; 3 slot-of; 4 slot-of-arg; 5 key-at; 10 args
+    -- returns: if1; 1 record-in; 2 record-in-arg; 3 slot-of; 4 slot-of-arg; 5 key-at; 10 args
+    (λ c. let p = c .before .before .before .before .before .before .before .before .before .before .pre in old-put _ _ _ _ _ (p .0) (c .before .before .before .before .before .key-at .ensures) (p .4) (c .before .before .before .slot-of .ensures) _ (c .before .record-in .ensures) (c .if1 .taken))
+    -- cast-slots: if1; 1 record-in; 2 record-in-arg; 3 slot-of; 4 slot-of-arg; 5 key-at; 10 args
+    (λ c. omega (arith, c .before .before .before .before .before .before .before .before .before .before .pre .1))
+    -- mul-slots: if1; 1 record-in; 2 record-in-arg; 3 slot-of; 4 slot-of-arg; 5 key-at; 10 args
     (λ c. omega (arith, c .before .before .before .slot-of .ensures .inside))
-    -- slice-write-slots: if1; 1 entry; 2 entry-arg; 3 slot-of; 4 slot-of-arg; 5 key-at; 10 args
+    -- slice-write-slots: if1; 1 record-in; 2 record-in-arg; 3 slot-of; 4 slot-of-arg; 5 key-at; 10 args
     (λ c. omega (arith, c .before .before .before .slot-of .ensures .inside))
-    -- same-length-2: if1; 1 entry; 2 entry-arg; 3 slot-of; 4 slot-of-arg; 5 key-at; 10 args
+    -- same-length-2: if1; 1 record-in; 2 record-in-arg; 3 slot-of; 4 slot-of-arg; 5 key-at; 10 args
     (λ c. search needs)
-    -- returns-2: if1; 1 entry; 2 entry-arg; 3 slot-of; 4 slot-of-arg; 5 key-at; 10 args
-    (λ c. let p = c .before .before .before .before .before .before .before .before .before .before .pre in let free = sym (c .before .entry .ensures) ∙ c .if1 .left in let e = c .before .before .before .slot-of .ensures in new-put _ _ _ _ _ (p .0) (c .before .before .before .before .before .key-at .ensures) (p .3) e free (omega (arith, e .inside))))
+    -- returns-2: if1; 1 record-in; 2 record-in-arg; 3 slot-of; 4 slot-of-arg; 5 key-at; 10 args
+    (λ c. let p = c .before .before .before .before .before .before .before .before .before .before .pre in let free = sym (c .before .record-in .ensures) ∙ c .if1 .left in let e = c .before .before .before .slot-of .ensures in new-put _ _ _ _ _ (p .0) (c .before .before .before .before .before .key-at .ensures) (p .4) e free (omega (arith, e .inside))))
