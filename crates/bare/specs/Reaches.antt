@@ -3,11 +3,11 @@ use Prim.Native.Nat.{ℕ, zero, suc, _+_, _*_, _-_, _%_, _<_, _≤_}
 use mathlib.Core.Path.{_≡_, refl, sym, _∙_}
 use mathlib.Core.List.{List}
 use mathlib.Core.Bool.{Bool, true, false}
-use lib.Dec.{ltb, leb}
+use lib.Dec.{eqb, ltb, leb}
 use lib.ListN.{length, getD, set}
 use lib.Seq.{getD-set-same, getD-set-other}
 use native.Mathlib.Omega.{arith}
-use borrow.Author.Tests.{ltb-true, ltb-false, eq-eqb, ne-eqb, lt-ltb, le-ltb}
+use borrow.Author.Tests.{eqb-true, eqb-false, ltb-true, ltb-false, eq-eqb, ne-eqb, lt-ltb, le-ltb}
 use Rattle.reader.specs.Words.{Reader, le32, wordFrom, wordOf, through, word}
 use Rattle.reader.specs.Tests.{ifEq, ifLt}
 use Rattle.reader.specs.Kinds.{role, isNumber, isSymbol}
@@ -21,6 +21,13 @@ use Rattle.bare.specs.Erased.{bare-zero, bare-true, bare-all, bare-node}
 use Rattle.bare.specs.Keys.{negationsOf, bodyOf, bodyTree, negate, decoded, Normal, by-body, body-none, body-bottom, body-record}
 use Rattle.bare.specs.Parts.{body-in}
 use Rattle.bare.specs.Reach.{larger, ownReach, reach, reach-is}
+
+-- the indices of the records below n are below 64
+pub record Indexed (rd : Reader) (n : ℕ) : Type 0 where
+  pub low : (i : ℕ) → i < n → rd i 0 ≡ 9 → rd i 1 < 64
+
+pub indexed-as : (rd : Reader) (n k : ℕ) → k ≡ n → Indexed rd n → Indexed rd k
+indexed-as rd n k e h = rw e h
 
 -- the table has the reaches of the records below n
 pub record Reached (rd : Reader) (reaches : List ℕ) (n : ℕ) : Type 0 where
@@ -111,6 +118,49 @@ module _ (rd : Reader) (i k : ℕ) (p : 0 < i) (ek : k ≡ rd i 0) where
       let part : (w : ℕ) → getD reaches (partAt rd false i w) 0 ≡ reach (bareTree rd (partAt rd false i w)) =
       λ w. reached .holds (partAt rd false i w) (part-below rd false i w p) in
       rw (bare-node rd i p (λ h. no-true (ek ∙ h)) (λ h. no-all (ek ∙ h)), ← part 1, ← part 2, ← part 3) er
+
+-- Where indices are below 64, no reach is more than 64, which fits an entry.
+larger-most : (a b n : ℕ) → a ≤ n → b ≤ n → larger a b ≤ n
+unfolding larger ifLt
+larger-most a b n p q = go (ltb a b)
+  where
+    go : (s : Bool) → elim s as (λ x. ℕ) [ true ↦ b | false ↦ a ] ≤ n
+    go true = q
+    go false = p
+
+module _ (rd : Reader) (n : ℕ) (indexed : Indexed rd n) where
+  own-most : (i : ℕ) → i < n → ownReach (rd i 0) (atom rd i) ≤ 64
+  own-most i h = go (eqb (rd i 0) 9) refl
+    where
+      go : (b : Bool) → eqb (rd i 0) 9 ≡ b → ownReach (rd i 0) (atom rd i) ≤ 64
+      go true e =
+          let nine : rd i 0 ≡ 9 = eqb-true (rd i 0) 9 e in
+          omega (arith, own-index rd i (rd i 0) refl nine (rd i 1) refl, indexed .low i h nine)
+      go false e = omega (arith, own-none rd i (rd i 0) (eqb-false (rd i 0) 9 e))
+
+  -- a record whose parts, which are smaller, have no more
+  reach-step : (i : ℕ) → 0 < i → i < n → ((x : ℕ) → x < i → reach (bareTree rd x) ≤ 64) → reach (bareTree rd i) ≤ 64
+  unfolding reach
+  reach-step i p h part = go (eqb (rd i 0) 15) refl (eqb (rd i 0) 22) refl
+    where
+      go : (b : Bool) → eqb (rd i 0) 15 ≡ b → (c : Bool) → eqb (rd i 0) 22 ≡ c → reach (bareTree rd i) ≤ 64
+      go true e c g = omega (arith, reach-true rd i (rd i 0) p refl (eqb-true (rd i 0) 15 e))
+      go false e true g = rw (bare-all rd i p (eqb-true (rd i 0) 22 g)) (part (child rd i 2) (child-below rd i 2 p))
+      go false e false g =
+          let y = part (partAt rd false i 2) (part-below rd false i 2 p) in
+          rw (bare-node rd i p (eqb-false (rd i 0) 15 e) (eqb-false (rd i 0) 22 g))
+          (larger-most _ _ 64 (own-most i h)
+          (larger-most _ _ 64 (part (partAt rd false i 1) (part-below rd false i 1 p))
+          (larger-most _ _ 64 (omega (arith, y)) (part (partAt rd false i 3) (part-below rd false i 3 p)))))
+
+  reach-most : (f i : ℕ) → i < f → i < n → reach (bareTree rd i) ≤ 64
+  unfolding reach
+  reach-most zero i p h = absurd (omega arith)
+  reach-most (suc f) zero p h = rw (bare-zero rd) (omega arith)
+  reach-most (suc f) (suc i) p h = reach-step (suc i) (omega arith) h (λ x q. reach-most f x (omega arith) (omega arith))
+
+  pub reach-fits : (i r : ℕ) → i < n → r ≡ reach (bareTree rd i) → r < 256
+  reach-fits i r h e = omega (arith, reach-most (suc i) i (omega arith) h)
 
 -- The loop.
 pub reached-none : (rd : Reader) (reaches : List ℕ) → length reaches ≡ 0 → Reached rd reaches (length reaches)

@@ -1,18 +1,19 @@
 // Closedness: how far the indices of each record's tree reach, kept in a table, so that a test is one comparison.
-use equality::keys::part_entry;
-use equality::tables;
+use equality::keys::part_at;
 use reader::trees;
 use reader::words;
 ghost use mathlib.Core.Path.{_≡_};
+ghost use mathlib.Core.Bool.{false};
 ghost use Prim.Native.Nat.{_-_, _<_, _≤_};
-ghost use lib.ListN.{length};
+ghost use lib.ListN.{length, getD};
 ghost use Rattle.reader.specs.Words.{word};
 ghost use Rattle.reader.specs.Trees.{atom};
+ghost use Rattle.equality.specs.Keys.{partEntry};
 ghost use Rattle.reader.specs.Variables.{binders, indicesBelow};
 ghost use Rattle.derivation_rules.specs.Erase.{bareTree};
 ghost use Rattle.bare.specs.Keys.{decoded, Normal};
 ghost use Rattle.bare.specs.Reach.{larger, ownReach, reach};
-ghost use Rattle.bare.specs.Reaches.{Reached, nodeReach};
+ghost use Rattle.bare.specs.Reaches.{Indexed, Reached, nodeReach};
 
 fn larger(a: usize, b: usize) -> usize
     ensures { λ r. ⌜ r ≡ larger a b ⌝ }
@@ -51,12 +52,37 @@ fn own_reach(obligation: &[u8], second: &[u8], m: usize, i: usize, k: usize) -> 
     index_at(obligation, second, m, i) + 1
 }
 
+// Entry k of the table.
+fn entry(reaches: &[u8], k: usize) -> usize
+    requires { ⌜ k < length (now reaches) ⌝ }
+    ensures { λ r. ⌜ r ≡ getD (now (reaches .entry)) k 0 ⌝ }
+{
+    reaches[k] as usize
+}
+
+// What the table says of part w of record i, whose kind is k.
+fn part_reach(
+    obligation: &[u8],
+    second: &[u8],
+    m: usize,
+    reaches: &[u8],
+    i: usize,
+    k: usize,
+    w: u8,
+) -> usize
+    requires { ⌜ (k ≡ word (now obligation) (now second) m i 0) × (0 < i) × (i ≤ length (now reaches)) ⌝ }
+    ensures { λ r. ⌜ r ≡ partEntry (word (now (obligation .entry)) (now (second .entry)) m) false (now (reaches .entry)) i w ⌝ }
+{
+    let x = part_at(obligation, second, m, false, i, k, w);
+    entry(reaches, x)
+}
+
 // The reach of record i, whose kind is k, from those of its parts.
 fn node_reach(
     obligation: &[u8],
     second: &[u8],
     m: usize,
-    reaches: &[usize],
+    reaches: &[u8],
     i: usize,
     k: usize,
 ) -> usize
@@ -64,14 +90,14 @@ fn node_reach(
     ensures { λ r. ⌜ r ≡ nodeReach (word (now (obligation .entry)) (now (second .entry)) m) (now (reaches .entry)) i ⌝ }
 {
     let own = own_reach(obligation, second, m, i, k);
-    let x = part_entry(obligation, second, m, false, reaches, i, k, 1);
-    let y = part_entry(obligation, second, m, false, reaches, i, k, 2);
-    let z = part_entry(obligation, second, m, false, reaches, i, k, 3);
+    let x = part_reach(obligation, second, m, reaches, i, k, 1);
+    let y = part_reach(obligation, second, m, reaches, i, k, 2);
+    let z = part_reach(obligation, second, m, reaches, i, k, 3);
     larger(own, larger(x, larger(under(k, y), z)))
 }
 
 // The reach of record i, from those of smaller records.
-fn reach_of(obligation: &[u8], second: &[u8], m: usize, reaches: &[usize], i: usize) -> usize
+fn reach_of(obligation: &[u8], second: &[u8], m: usize, reaches: &[u8], i: usize) -> usize
     requires { ⌜ (0 < i) × (i ≤ length (now reaches)) × Reached (word (now obligation) (now second) m) (now reaches) i ⌝ }
     ensures { λ r. ⌜ r ≡ reach (bareTree (word (now (obligation .entry)) (now (second .entry)) m) i) ⌝ }
 {
@@ -81,13 +107,14 @@ fn reach_of(obligation: &[u8], second: &[u8], m: usize, reaches: &[usize], i: us
     }
     if k == 22 {
         let x = trees::child_at(obligation, second, m, i, 2);
-        return tables::entry(reaches, x);
+        return entry(reaches, x);
     }
     node_reach(obligation, second, m, reaches, i, k)
 }
 
-// Fills the table with the reaches of all its records.
-pub fn reach_all(obligation: &[u8], second: &[u8], m: usize, reaches: &mut [usize])
+// Fills the table with the reaches of all its records, whose indices are below 64.
+pub fn reach_all(obligation: &[u8], second: &[u8], m: usize, reaches: &mut [u8])
+    requires { ⌜ Indexed (word (now obligation) (now second) m) (length (now reaches)) ⌝ }
     ensures { λ _. ⌜ Reached (word (now (obligation .entry)) (now (second .entry)) m) (now (reaches .exit)) (length (now (reaches .exit))) ⌝ }
 {
     if reaches.len() == 0 {
@@ -96,7 +123,8 @@ pub fn reach_all(obligation: &[u8], second: &[u8], m: usize, reaches: &mut [usiz
     reaches[0] = 0;
     let mut i: usize = 1;
     while i < reaches.len() {
-        reaches[i] = reach_of(obligation, second, m, reaches, i);
+        let r = reach_of(obligation, second, m, reaches, i);
+        reaches[i] = r as u8;
         i += 1;
     }
 }
@@ -107,7 +135,7 @@ pub fn reach_at(
     second: &[u8],
     m: usize,
     keys: &[usize],
-    reaches: &[usize],
+    reaches: &[u8],
     key: usize,
 ) -> usize
     requires { ⌜ Normal (word (now obligation) (now second) m) (length (now keys)) key × (length (now keys) ≤ length (now reaches)) × Reached (word (now obligation) (now second) m) (now reaches) (length (now reaches)) ⌝ }
@@ -117,7 +145,7 @@ pub fn reach_at(
     if body < 2 {
         return 0;
     }
-    tables::entry(reaches, body - 1)
+    entry(reaches, body - 1)
 }
 
 // Is every index of the tree with this key below d, or bound in it?
@@ -126,7 +154,7 @@ pub fn is_below(
     second: &[u8],
     m: usize,
     keys: &[usize],
-    reaches: &[usize],
+    reaches: &[u8],
     key: usize,
     d: usize,
 ) -> bool

@@ -16,7 +16,7 @@ fn is_marked(
     obligation: &[u8],
     second: &[u8],
     m: usize,
-    marks: &[usize],
+    marks: &[u8],
     c: usize,
     n: usize,
     x: usize,
@@ -35,7 +35,7 @@ fn part_marked(
     obligation: &[u8],
     second: &[u8],
     m: usize,
-    marks: &[usize],
+    marks: &[u8],
     c: usize,
     j: usize,
     k: usize,
@@ -64,7 +64,7 @@ fn node_marked(
     obligation: &[u8],
     second: &[u8],
     m: usize,
-    marks: &[usize],
+    marks: &[u8],
     c: usize,
     j: usize,
     k: usize,
@@ -85,7 +85,7 @@ fn node_marked(
 }
 
 // Is constant c in record j, by the marks of the smaller records?
-fn is_in(obligation: &[u8], second: &[u8], m: usize, marks: &[usize], c: usize, j: usize) -> bool
+fn is_in(obligation: &[u8], second: &[u8], m: usize, marks: &[u8], c: usize, j: usize) -> bool
     requires { ⌜ (j ≤ length (now marks)) × Marked (word (now obligation) (now second) m) c (now marks) j ⌝ }
     ensures { λ r. ⌜ r ≡ occurs c (bareTree (word (now (obligation .entry)) (now (second .entry)) m) j) ⌝ }
 {
@@ -104,7 +104,7 @@ fn is_in(obligation: &[u8], second: &[u8], m: usize, marks: &[usize], c: usize, 
 }
 
 // The mark of record j: 1 where constant c is in it.
-fn mark_of(obligation: &[u8], second: &[u8], m: usize, marks: &[usize], c: usize, j: usize) -> usize
+fn mark_of(obligation: &[u8], second: &[u8], m: usize, marks: &[u8], c: usize, j: usize) -> u8
     requires { ⌜ (j ≤ length (now marks)) × Marked (word (now obligation) (now second) m) c (now marks) j ⌝ }
     ensures { λ r. ⌜ r ≡ markOf (occurs c (bareTree (word (now (obligation .entry)) (now (second .entry)) m) j)) ⌝ }
 {
@@ -116,7 +116,7 @@ fn mark_of(obligation: &[u8], second: &[u8], m: usize, marks: &[usize], c: usize
 }
 
 // Marks the records from c on, below n.
-pub fn mark_all(obligation: &[u8], second: &[u8], m: usize, marks: &mut [usize], c: usize, n: usize)
+pub fn mark_all(obligation: &[u8], second: &[u8], m: usize, marks: &mut [u8], c: usize, n: usize)
     requires { ⌜ n ≤ length (now marks) ⌝ }
     ensures { λ _. ⌜ Marked (word (now (obligation .entry)) (now (second .entry)) m) c (now (marks .exit)) n ⌝ }
 {
@@ -133,7 +133,7 @@ pub fn key_marked(
     second: &[u8],
     m: usize,
     keys: &[usize],
-    marks: &[usize],
+    marks: &[u8],
     c: usize,
     key: usize,
 ) -> bool

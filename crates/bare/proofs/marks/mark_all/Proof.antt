@@ -21,8 +21,6 @@ mark-all-spec = tie.close (tie.spec
     (λ c. (refl, search marked-start))
     -- mark-of-requires: mark-of-arg; 1 loop-test; 2 loop; 6 args
     (λ c κs. search needs)
-    -- mul-marks: mark-of; 1 mark-of-arg; 2 loop-test; 3 loop; 7 args
-    (λ c. search needs)
     -- slice-write-marks: mark-of; 1 mark-of-arg; 2 loop-test; 3 loop; 7 args
     (λ c. search needs)
     -- add-j: mark-of; 1 mark-of-arg; 2 loop-test; 3 loop; 7 args
