@@ -74,7 +74,8 @@ fn parts_fit(
     second: &[u8],
     m: usize,
     keys: &[usize],
-    reaches: &[usize],
+    reaches: &[u8],
+    weights: &[u16],
     frames: &[usize],
     d: usize,
     n: usize,
@@ -83,7 +84,7 @@ fn parts_fit(
     ensures { λ r. ⌜ r ≡ nodeFits (word (now (obligation .entry)) (now (second .entry)) m) (decoded (word (now (obligation .entry)) (now (second .entry)) m) (goalAt (now (frames .entry)) d)) n ⌝ }
 {
     let goal = frames::goal_at(frames, d);
-    fits::fits(obligation, second, m, keys, reaches, goal, n)
+    fits::fits(obligation, second, m, keys, reaches, weights, goal, n)
 }
 
 // Have the premises of node n room beside h members?
@@ -155,16 +156,17 @@ fn fit_fault(
     second: &[u8],
     m: usize,
     keys: &[usize],
-    reaches: &[usize],
+    reaches: &[u8],
+    weights: &[u16],
     frames: &[usize],
-    marks: &mut [usize],
+    marks: &mut [u8],
     d: usize,
     n: usize,
 ) -> usize
     requires { ⌜ At (word (now obligation) (now second) m) (now keys) (now frames) d n × Ready (word (now obligation) (now second) m) (now keys) (now reaches) (now marks) ⌝ }
     ensures { λ r. ⌜ r ≡ fitFault (word (now (obligation .entry)) (now (second .entry)) m) (stateOf (word (now (obligation .entry)) (now (second .entry)) m) (now (frames .entry)) d) n ⌝ }
 {
-    if !parts_fit(obligation, second, m, keys, reaches, frames, d, n) {
+    if !parts_fit(obligation, second, m, keys, reaches, weights, frames, d, n) {
         return 15;
     }
     if !fresh::constant_fresh(obligation, second, m, keys, frames, marks, d, n) {
@@ -185,9 +187,10 @@ pub fn node_fault(
     second: &[u8],
     m: usize,
     keys: &[usize],
-    reaches: &[usize],
+    reaches: &[u8],
+    weights: &[u16],
     frames: &[usize],
-    marks: &mut [usize],
+    marks: &mut [u8],
     d: usize,
     n: usize,
 ) -> usize
@@ -198,5 +201,16 @@ pub fn node_fault(
     if why != 0 {
         return why;
     }
-    fit_fault(obligation, second, m, keys, reaches, frames, marks, d, n)
+    fit_fault(
+        obligation,
+        second,
+        m,
+        keys,
+        reaches,
+        weights,
+        frames,
+        marks,
+        d,
+        n,
+    )
 }
