@@ -1,16 +1,16 @@
 -- The walk over a derivation's nodes as the code makes it: what is left to do, by the table of ways, gives the answer.
-use Prim.Native.Nat.{ℕ, zero, suc, _+_, _*_, _<_, _≤_}
+use Prim.Native.Nat.{ℕ, zero, suc, _+_, _<_, _≤_}
 use mathlib.Core.Path.{_≡_, refl, sym, ap, _∙_}
-use mathlib.Core.List.{List, [], _∷_}
+use mathlib.Core.List.{List}
 use mathlib.Core.Bool.{Bool, true, false, false≢true}
 use lib.Dec.{eqb}
 use lib.ListN.{length}
 use native.Mathlib.Omega.{arith}
 use native.Mathlib.Numerals.{add-one}
-use borrow.Author.Tests.{eqb-true, eqb-false, ne-eqb}
+use borrow.Author.Tests.{eqb-true, eqb-false}
 use Rattle.reader.specs.declared.Answer.{Answer}
 use Rattle.reader.specs.Words.{Reader}
-use Rattle.reader.specs.Tests.{ifEq, every, eq-yes, eq-no}
+use Rattle.reader.specs.Tests.{every}
 use Rattle.reader.specs.Kinds.{isRule}
 use Rattle.reader.specs.Trees.{lower}
 use Rattle.reader.specs.Chains.{items, premises}
@@ -20,7 +20,7 @@ use Rattle.reader.specs.Walk.{andThen}
 use Rattle.reader.specs.Meaning.{sound}
 use Rattle.accepted.specs.Scan.{both-parts, every-head}
 use Rattle.accepted.specs.Under.{under, underLinks, under-step, under-links, under-links-zero}
-use Rattle.derivation_rules.specs.Rules.{Sequent, Row}
+use Rattle.derivation_rules.specs.Rules.{Sequent}
 use Rattle.derivation_rules.specs.Check.{rowOf, premisesFit, nodeFault, premiseState}
 use Rattle.bare.specs.Table.{Table}
 use Rattle.derivation_nodes.specs.Frames.{stateOf, startAt, Framed, Kept, kept-self, kept-state, kept-framed}
@@ -58,10 +58,11 @@ pub record Waits (rd : Reader) (size : ℕ) (frames : List ℕ) (d n c b : ℕ) 
 abbrev pub Waiting : Reader → ℕ → List ℕ → List ℕ → ℕ → Type 0
 Waiting rd size frames ways d = Waits rd size frames d (nodeAt ways d) (linkAt ways d) (numberAt ways d)
 
--- node n is to be entered at depth d + 1, and then come the premises left above it
+-- node n is entered at depth d + 1, and then come the premises left at depths 1 to d
 unfoldable pub goInto : Reader → List ℕ → List ℕ → ℕ → ℕ → ℕ → Answer
 goInto rd frames ways d n count = andThen (visit rd n (stateOf rd frames (d + 1)) count) (goOn rd frames ways d)
 
+-- node n is next: the frame of depth d + 1 is its own, and what is left at depths 1 to d waits
 pub record Standing (rd : Reader) (keys frames ways : List ℕ) (d n count : ℕ) : Type 0 where
   pub here : At rd keys frames (d + 1) n
   pub pos : 0 < n
@@ -244,8 +245,8 @@ module _ (rd : Reader) (keys frames ways : List ℕ) (d n count : ℕ) (s : Stan
     passes : nodeFault rd (stateOf rd frames (d + 1)) n ≡ 0
     passes = sym ew ∙ z
 
-    into-waits : length entered ≡ length ways → (e : ℕ) → 0 < e → e ≤ d + 1 → Waiting rd (length keys) frames entered e
-    into-waits l e p q = go (eqb e (d + 1)) refl
+    into-waits : (e : ℕ) → 0 < e → e ≤ d + 1 → Waiting rd (length keys) frames entered e
+    into-waits e p q = go (eqb e (d + 1)) refl
       where
         go : (v : Bool) → eqb e (d + 1) ≡ v → Waiting rd (length keys) frames entered e
         go true y =
@@ -291,7 +292,7 @@ module _ (rd : Reader) (keys frames ways : List ℕ) (d n count : ℕ) (s : Stan
             small = s .here .small;
             long = l ∙ s .long;
             header = s .header;
-            waits = λ e p q. into-waits l e p (omega arith);
+            waits = λ e p q. into-waits e p (omega arith);
             more = rw ef (waiting-more entered (d + 1));
             few = omega (arith, into-less, s .few);
           }
@@ -349,7 +350,6 @@ step-left : (rd : Reader) (keys frames ways : List ℕ) (d count : ℕ) → Goin
 unfolding left
 step-left rd keys frames ways zero count g some x pushed moved t = absurd (some refl)
 step-left rd keys frames ways (suc e) count g some x pushed moved t =
-    let c : ℕ = linkAt ways (suc e) in
     let split : underLinks 2 rd (linkAt ways (suc e)) ≡ under 2 rd x + underLinks 2 rd (lower rd (linkAt ways (suc e)) 3) =
     first-under rd (linkAt ways (suc e)) x (g .more some) (next-waits rd keys frames ways (suc e) count g some .all) (t .node) in
     let own : underLinks 2 rd (linkAt moved (suc e)) ≡ underLinks 2 rd (lower rd (linkAt ways (suc e)) 3) = ap (underLinks 2 rd) (t .written .link-is) in

@@ -1,7 +1,7 @@
 -- The start of the walk over a pair that passes places 1 to 12.
 use Prim.Native.Nat.{ℕ, zero, suc, _+_, _*_, _<_, _≤_}
 use mathlib.Core.Path.{_≡_, refl, sym, ap, _∙_}
-use mathlib.Core.List.{List, [], _∷_}
+use mathlib.Core.List.{List}
 use mathlib.Core.Bool.{Bool, true, false}
 use lib.ListN.{length, take, replicate, length-replicate}
 use lib.Seq.{length-take-le}
@@ -11,8 +11,8 @@ use Rattle.reader.specs.declared.Answer.{Answer}
 use Rattle.reader.specs.Words.{Reader, wordOf, word}
 use Rattle.reader.specs.Tests.{ifEq}
 use Rattle.reader.specs.Kinds.{isRule}
-use Rattle.reader.specs.Trees.{Tree, lower, child, tree, firstOf}
-use Rattle.reader.specs.Chains.{linked, items}
+use Rattle.reader.specs.Trees.{child}
+use Rattle.reader.specs.Chains.{linked}
 use Rattle.reader.specs.Laws.{child-below}
 use Rattle.reader.specs.Answers.{orAnswer}
 use Rattle.reader.specs.Places.{mostRecords, hypothesisChain, negatedGoal, countOf, rootOf, reading}
@@ -20,13 +20,11 @@ use Rattle.typing.specs.Shapes.{first-tree, child-zero}
 use Rattle.accepted.specs.File.{ReadObligation, ReadSecond, beside, lastOf, reading-parts, length-parts, header-parts, counts-parts}
 use Rattle.accepted.specs.Pair.{rule-range, root-range, pair-goal-range, pair-hypotheses-range, pair-hypotheses-limit}
 use Rattle.accepted.specs.Under.{under, root-under}
-use Rattle.derivation_rules.specs.Erase.{⌊_⌋, bareTree}
-use Rattle.derivation_rules.specs.Rules.{Sequent, sequent}
-use Rattle.derivation_rules.specs.Check.{hypotheses, goalOf, startSequent, nodeFault, premiseState, derivationWalk, derivationAnswer}
-use Rattle.bare.specs.Keys.{decoded, Normal, Stands}
+use Rattle.derivation_rules.specs.Erase.{bareTree}
+use Rattle.derivation_rules.specs.Check.{hypotheses, goalOf, startSequent, derivationWalk, derivationAnswer}
+use Rattle.bare.specs.Keys.{decoded}
 use Rattle.bare.specs.Table.{Table, KeyOf}
 use Rattle.bare.specs.Reaches.{Reached}
-use Rattle.bare.specs.Replaced.{Tables}
 use Rattle.derivation_nodes.specs.Frames.{goalAt, chainTrees, membersAt, stateOf, Framed, Written}
 use Rattle.derivation_nodes.specs.Pushed.{members-set, framed-set}
 use Rattle.derivation_nodes.specs.Needs.{At}

@@ -1,7 +1,7 @@
 -- The way from the root to the node where the walk stands: three numbers for each depth, those of depth d from 3 d on. They are the node of that depth, the link of
 -- its premises that are still to be walked, and the number of the premise that the link names.
 use Prim.Native.Nat.{ℕ, zero, suc, _+_, _*_, _-_, _<_, _≤_}
-use mathlib.Core.Path.{_≡_, refl, sym, ap, _∙_}
+use mathlib.Core.Path.{_≡_, refl, sym, _∙_}
 use mathlib.Core.List.{List}
 use mathlib.Core.Bool.{Bool, true, false}
 use lib.Dec.{eqb}

@@ -1,7 +1,7 @@
 use borrow.Author.Needs.{needs}
 use native.Mathlib.Omega.{arith}
 use Prim.Native.Nat.{ℕ, _+_, _≤_}
-use mathlib.Core.Path.{refl, sym}
+use mathlib.Core.Path.{sym}
 use lib.ListN.{length-replicate}
 use Rattle.derivation_check.specs.Started.{check-refused, check-walked, counts-few, entering, part-length}
 use Rattle.derivation_check.proofs.check.check_derivation.Statement.{statement}

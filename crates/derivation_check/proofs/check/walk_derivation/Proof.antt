@@ -1,5 +1,4 @@
 use borrow.Author.Needs.{needs}
-use native.Mathlib.Omega.{arith}
 use Rattle.derivation_check.specs.Started.{enter-small, enter-start, enter-at, enter-ready, enter-header, enter-root, enter-count, walked-from}
 use Rattle.derivation_check.proofs.check.walk_derivation.Statement.{statement}
 use Rattle.derivation_check.proofs.check.walk_derivation.Tie as tie

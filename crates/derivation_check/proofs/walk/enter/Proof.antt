@@ -1,6 +1,6 @@
 use borrow.Author.Needs.{needs}
 use native.Mathlib.Omega.{arith}
-use mathlib.Core.Path.{refl, sym, _∙_}
+use mathlib.Core.Path.{sym, _∙_}
 use Rattle.derivation_check.specs.Going.{entered-not, entered-is}
 use Rattle.derivation_check.proofs.walk.enter.Statement.{statement}
 use Rattle.derivation_check.proofs.walk.enter.Tie as tie
