@@ -1,2 +1,4 @@
+pub mod Ways
 pub mod Walked
+pub mod Going
 pub mod Started

@@ -1,7 +1,7 @@
 -- The start of the walk over a pair that passes places 1 to 12.
 use Prim.Native.Nat.{ℕ, zero, suc, _+_, _*_, _<_, _≤_}
 use mathlib.Core.Path.{_≡_, refl, sym, ap, _∙_}
-use mathlib.Core.List.{List, [], _∷_}
+use mathlib.Core.List.{List}
 use mathlib.Core.Bool.{Bool, true, false}
 use lib.ListN.{length, take, replicate, length-replicate}
 use lib.Seq.{length-take-le}
@@ -11,22 +11,20 @@ use Rattle.reader.specs.declared.Answer.{Answer}
 use Rattle.reader.specs.Words.{Reader, wordOf, word}
 use Rattle.reader.specs.Tests.{ifEq}
 use Rattle.reader.specs.Kinds.{isRule}
-use Rattle.reader.specs.Trees.{Tree, lower, child, tree, firstOf}
-use Rattle.reader.specs.Chains.{linked, items}
+use Rattle.reader.specs.Trees.{child}
+use Rattle.reader.specs.Chains.{linked}
 use Rattle.reader.specs.Laws.{child-below}
 use Rattle.reader.specs.Answers.{orAnswer}
 use Rattle.reader.specs.Places.{mostRecords, hypothesisChain, negatedGoal, countOf, rootOf, reading}
 use Rattle.typing.specs.Shapes.{first-tree, child-zero}
 use Rattle.accepted.specs.File.{ReadObligation, ReadSecond, beside, lastOf, reading-parts, length-parts, header-parts, counts-parts}
-use Rattle.accepted.specs.Pair.{root-range, pair-goal-range, pair-hypotheses-range, pair-hypotheses-limit}
+use Rattle.accepted.specs.Pair.{rule-range, root-range, pair-goal-range, pair-hypotheses-range, pair-hypotheses-limit}
 use Rattle.accepted.specs.Under.{under, root-under}
-use Rattle.derivation_rules.specs.Erase.{⌊_⌋, bareTree}
-use Rattle.derivation_rules.specs.Rules.{Sequent, sequent}
-use Rattle.derivation_rules.specs.Check.{hypotheses, goalOf, startSequent, nodeFault, premiseState, derivationWalk, derivationAnswer}
-use Rattle.bare.specs.Keys.{decoded, Normal, Stands}
+use Rattle.derivation_rules.specs.Erase.{bareTree}
+use Rattle.derivation_rules.specs.Check.{hypotheses, goalOf, startSequent, derivationWalk, derivationAnswer}
+use Rattle.bare.specs.Keys.{decoded}
 use Rattle.bare.specs.Table.{Table, KeyOf}
 use Rattle.bare.specs.Reaches.{Reached}
-use Rattle.bare.specs.Replaced.{Tables}
 use Rattle.derivation_nodes.specs.Frames.{goalAt, chainTrees, membersAt, stateOf, Framed, Written}
 use Rattle.derivation_nodes.specs.Pushed.{members-set, framed-set}
 use Rattle.derivation_nodes.specs.Needs.{At}
@@ -73,13 +71,14 @@ root-written rd keys before after chain negated formula goal count s ec en ef ke
     goal-is = ap (decoded rd) (w .goal-is) ∙ key .stands .means ∙ rw (ef, en, first-tree rd (negatedGoal rd)) refl
 
 -- the pair passes places 1 to 12, and the tables have their lengths
-pub record Entering (ob s : List ℕ) (m : ℕ) (keys reaches frames marks : List ℕ) : Type 0 where
+pub record Entering (ob s : List ℕ) (m : ℕ) (keys reaches frames marks ways : List ℕ) : Type 0 where
   pub read : reading 2 ob s .refusal ≡ 0
   pub counted : m ≡ countOf ob
   pub all : length keys ≡ m + countOf s + 1
   pub far : length reaches ≡ 201024
   pub long : length frames ≡ 32776
   pub wide : length marks ≡ 201024
+  pub deep : length ways ≡ 24582
 
 -- Pairs that pass places 1 to 12.
 module _ (ob s : List ℕ) (read : reading 2 ob s .refusal ≡ 0) where
@@ -101,7 +100,7 @@ module _ (ob s : List ℕ) (read : reading 2 ob s .refusal ≡ 0) where
       omega (arith, a .2, b .1)
 
 -- The conditions of the calls of `walk_derivation`.
-module _ (ob s : List ℕ) (m : ℕ) (keys reaches frames marks : List ℕ) (enter : Entering ob s m keys reaches frames marks) where
+module _ (ob s : List ℕ) (m : ℕ) (keys reaches frames marks ways : List ℕ) (enter : Entering ob s m keys reaches frames marks ways) where
   pub enter-small : length keys ≤ 201024
   enter-small = omega (arith, enter .all, enter .counted, obligation-few ob s (enter .read), derivation-few ob s (enter .read))
 
@@ -141,10 +140,21 @@ module _ (ob s : List ℕ) (m : ℕ) (keys reaches frames marks : List ℕ) (ent
     marks-long = omega (arith, enter-small, enter .wide);
   }
 
-  pub enter-rule : (root : ℕ) → root ≡ wordOf s 0 2 → isRule 2 (word ob s m root 0) ≡ true
-  enter-rule root e = rw (e, same-reader) (both-read ob s (enter .read) .1 .root)
+  pub enter-header : isRule 2 (word ob s m 0 0) ≡ false
+  enter-header = rw same-reader (go (isRule 2 (beside ob s 0 0)) refl)
+    where
+      go : (v : Bool) → isRule 2 (beside ob s 0 0) ≡ v → v ≡ false
+      go true e =
+          let p = both-read ob s (enter .read) in
+          absurd (omega (arith, rule-range 2 ob s (p .0) (p .1) 0 e .0))
+      go false e = refl
 
-  pub enter-count : (root : ℕ) → root ≡ wordOf s 0 2 → 0 + under 2 (word ob s m) root ≤ 4294967296
+  pub enter-root : (root : ℕ) → root ≡ wordOf s 0 2 → 0 < root
+  enter-root root e =
+      let p = both-read ob s (enter .read) in
+      omega (arith, root-range 2 ob s (p .0) (p .1) .0)
+
+  pub enter-count : (root : ℕ) → root ≡ wordOf s 0 2 → under 2 (word ob s m) root ≤ 4294967296
   enter-count root e =
       let p = both-read ob s (enter .read) in
       let most : under 2 (beside ob s) (rootOf s) ≤ countOf s = root-under 2 ob s (p .0) (p .1) in
@@ -172,9 +182,10 @@ module _ (ob s : List ℕ) (a : Answer) (ea : a ≡ reading 2 ob s) where
     pub counts-few : (m n : ℕ) → m ≡ wordOf ob 0 1 → n ≡ wordOf s 0 1 → m + n + 1 ≤ 201024
     counts-few m n em en = omega (arith, obligation-few ob s check-read, derivation-few ob s check-read)
 
-    pub entering : (m n : ℕ) (keys reaches frames marks : List ℕ) → m ≡ wordOf ob 0 1 → n ≡ wordOf s 0 1 → length keys ≡ m + n + 1 → length reaches ≡ 201024 →
-        length frames ≡ 32776 → length marks ≡ 201024 → Entering ob s m keys reaches frames marks
-    entering m n keys reaches frames marks em en l f k w = record { read = check-read; counted = em; all = rw (← en) l; far = f; long = k; wide = w }
+    pub entering : (m n : ℕ) (keys reaches frames marks ways : List ℕ) → m ≡ wordOf ob 0 1 → n ≡ wordOf s 0 1 → length keys ≡ m + n + 1 → length reaches ≡ 201024 →
+        length frames ≡ 32776 → length marks ≡ 201024 → length ways ≡ 24582 → Entering ob s m keys reaches frames marks ways
+    entering m n keys reaches frames marks ways em en l f k w d =
+        record { read = check-read; counted = em; all = rw (← en) l; far = f; long = k; wide = w; deep = d }
 
 -- the part of the table that has keys
 pub part-length : (k : ℕ) → k ≤ 201024 → length {A = ℕ} (take k (replicate 201024 0)) ≡ k

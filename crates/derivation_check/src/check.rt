@@ -34,15 +34,16 @@ fn walk_derivation(
     reaches: &mut [usize],
     frames: &mut [usize],
     marks: &mut [usize],
+    ways: &mut [usize],
 ) -> Answer
-    requires { ⌜ Entering (now obligation) (now derivation) m (now keys) (now reaches) (now frames) (now marks) ⌝ }
+    requires { ⌜ Entering (now obligation) (now derivation) m (now keys) (now reaches) (now frames) (now marks) (now ways) ⌝ }
     ensures { λ r. ⌜ r ≡ derivationWalk (word (now (obligation .entry)) (now (derivation .entry)) m) (rootOf (now (derivation .entry))) ⌝ }
 {
     fill_keys(obligation, derivation, m, keys);
     closed::reach_all(obligation, derivation, m, reaches);
     start::store_start(obligation, derivation, m, keys, frames);
     let root = words::word_of(derivation, 0, 2);
-    walk::walk_node(
+    walk::walk(
         obligation,
         derivation,
         m,
@@ -50,9 +51,8 @@ fn walk_derivation(
         reaches,
         frames,
         marks,
-        1,
+        ways,
         root,
-        0,
     )
 }
 
@@ -70,6 +70,7 @@ pub fn check_derivation(obligation: &[u8], derivation: &[u8]) -> Answer
     let mut reaches = [0usize; 201024];
     let mut frames = [0usize; 32776];
     let mut marks = [0usize; 201024];
+    let mut ways = [0usize; 24582];
     walk_derivation(
         obligation,
         derivation,
@@ -78,5 +79,6 @@ pub fn check_derivation(obligation: &[u8], derivation: &[u8]) -> Answer
         &mut reaches,
         &mut frames,
         &mut marks,
+        &mut ways,
     )
 }

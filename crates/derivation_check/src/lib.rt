@@ -3,3 +3,4 @@ pub mod check;
 pub mod entries;
 pub mod start;
 pub mod walk;
+pub mod ways;

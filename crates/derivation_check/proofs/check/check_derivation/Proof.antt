@@ -1,7 +1,7 @@
 use borrow.Author.Needs.{needs}
 use native.Mathlib.Omega.{arith}
 use Prim.Native.Nat.{ℕ, _+_, _≤_}
-use mathlib.Core.Path.{refl, sym}
+use mathlib.Core.Path.{sym}
 use lib.ListN.{length-replicate}
 use Rattle.derivation_check.specs.Started.{check-refused, check-walked, counts-few, entering, part-length}
 use Rattle.derivation_check.proofs.check.check_derivation.Statement.{statement}
@@ -31,7 +31,9 @@ check-derivation-spec = tie.close (tie.spec
     (λ c. search needs)
     -- slice-aggregate-walk-derivation-4: marks; 1 frames; 2 reaches; 3 keys; 4 word-of2; 5 word-of; 6 if1; 7 struct-known; 8 read-derivation; 11 args
     (λ c. search needs)
-    -- walk-derivation-requires: marks; 1 frames; 2 reaches; 3 keys; 4 word-of2; 5 word-of; 6 if1; 7 struct-known; 8 read-derivation; 11 args
-    (λ c κs. let few : c .before .before .before .before .before .word-of .result + c .before .before .before .before .word-of2 .result + 1 ≤ 201024 = counts-few _ _ _ (c .before .before .before .before .before .before .before .before .read-derivation .ensures) (c .before .before .before .before .before .before .if1 .left) _ _ (c .before .before .before .before .before .word-of .ensures) (c .before .before .before .before .word-of2 .ensures) in entering _ _ _ (c .before .before .before .before .before .before .before .before .read-derivation .ensures) (c .before .before .before .before .before .before .if1 .left) _ _ _ _ _ _ (c .before .before .before .before .before .word-of .ensures) (c .before .before .before .before .word-of2 .ensures) (part-length _ few) (length-replicate {A = ℕ} 201024 0) (length-replicate {A = ℕ} 32776 0) (length-replicate {A = ℕ} 201024 0))
-    -- returns-2: marks2; 1 frames2; 2 reaches2; 3 keys2; 4 walk-derivation; 5 marks; 6 frames; 7 reaches; 8 keys; 9 word-of2; 10 word-of; 11 if1; 12 struct-known; 13 read-derivation; 16 args
-    (λ c. check-walked _ _ _ (c .before .before .before .before .before .before .before .before .before .before .before .before .before .read-derivation .ensures) (c .before .before .before .before .before .before .before .before .before .before .before .if1 .left) _ _ (c .before .before .before .before .before .before .before .before .before .before .word-of .ensures) (c .before .before .before .before .walk-derivation .ensures)))
+    -- slice-aggregate-walk-derivation-5: ways; 1 marks; 2 frames; 3 reaches; 4 keys; 5 word-of2; 6 word-of; 7 if1; 8 struct-known; 9 read-derivation; 12 args
+    (λ c. search needs)
+    -- walk-derivation-requires: ways; 1 marks; 2 frames; 3 reaches; 4 keys; 5 word-of2; 6 word-of; 7 if1; 8 struct-known; 9 read-derivation; 12 args
+    (λ c κs. let few : c .before .before .before .before .before .before .word-of .result + c .before .before .before .before .before .word-of2 .result + 1 ≤ 201024 = counts-few _ _ _ (c .before .before .before .before .before .before .before .before .before .read-derivation .ensures) (c .before .before .before .before .before .before .before .if1 .left) _ _ (c .before .before .before .before .before .before .word-of .ensures) (c .before .before .before .before .before .word-of2 .ensures) in entering _ _ _ (c .before .before .before .before .before .before .before .before .before .read-derivation .ensures) (c .before .before .before .before .before .before .before .if1 .left) _ _ _ _ _ _ _ (c .before .before .before .before .before .before .word-of .ensures) (c .before .before .before .before .before .word-of2 .ensures) (part-length _ few) (length-replicate {A = ℕ} 201024 0) (length-replicate {A = ℕ} 32776 0) (length-replicate {A = ℕ} 201024 0) (length-replicate {A = ℕ} 24582 0))
+    -- returns-2: ways2; 1 marks2; 2 frames2; 3 reaches2; 4 keys2; 5 walk-derivation; 6 ways; 7 marks; 8 frames; 9 reaches; 10 keys; 11 word-of2; 12 word-of; 13 if1; 14 struct-known; 15 read-derivation; 18 args
+    (λ c. check-walked _ _ _ (c .before .before .before .before .before .before .before .before .before .before .before .before .before .before .before .read-derivation .ensures) (c .before .before .before .before .before .before .before .before .before .before .before .before .before .if1 .left) _ _ (c .before .before .before .before .before .before .before .before .before .before .before .before .word-of .ensures) (c .before .before .before .before .before .walk-derivation .ensures)))
