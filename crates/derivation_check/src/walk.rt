@@ -25,9 +25,10 @@ fn enter(
     second: &[u8],
     m: usize,
     keys: &[usize],
-    reaches: &[usize],
+    reaches: &[u8],
+    weights: &[u16],
     frames: &[usize],
-    marks: &mut [usize],
+    marks: &mut [u8],
     ways: &mut [usize],
     d: usize,
     n: usize,
@@ -35,7 +36,18 @@ fn enter(
     requires { ⌜ At (word (now obligation) (now second) m) (now keys) (now frames) d n × Ready (word (now obligation) (now second) m) (now keys) (now reaches) (now marks) × (length (now ways) ≡ 24582) ⌝ }
     ensures { λ r. ⌜ (r ≡ nodeFault (word (now (obligation .entry)) (now (second .entry)) m) (stateOf (word (now (obligation .entry)) (now (second .entry)) m) (now (frames .entry)) d) n) × Entered (word (now (obligation .entry)) (now (second .entry)) m) d n r (now (ways .entry)) (now (ways .exit)) ⌝ }
 {
-    let why = nodes::node_fault(obligation, second, m, keys, reaches, frames, marks, d, n);
+    let why = nodes::node_fault(
+        obligation,
+        second,
+        m,
+        keys,
+        reaches,
+        weights,
+        frames,
+        marks,
+        d,
+        n,
+    );
     if why != 0 {
         return why;
     }
@@ -72,9 +84,10 @@ fn walk_on(
     second: &[u8],
     m: usize,
     keys: &[usize],
-    reaches: &[usize],
+    reaches: &[u8],
+    weights: &[u16],
     frames: &mut [usize],
-    marks: &mut [usize],
+    marks: &mut [u8],
     ways: &mut [usize],
     deepest: usize,
     entered: usize,
@@ -92,6 +105,7 @@ fn walk_on(
             m,
             keys,
             reaches,
+            weights,
             frames,
             marks,
             ways,
@@ -123,9 +137,10 @@ pub fn walk(
     second: &[u8],
     m: usize,
     keys: &[usize],
-    reaches: &[usize],
+    reaches: &[u8],
+    weights: &[u16],
     frames: &mut [usize],
-    marks: &mut [usize],
+    marks: &mut [u8],
     ways: &mut [usize],
     root: usize,
 ) -> Answer
@@ -138,6 +153,7 @@ pub fn walk(
         m,
         keys,
         reaches,
+        weights,
         frames,
         marks,
         ways,
@@ -159,6 +175,7 @@ pub fn walk(
         m,
         keys,
         reaches,
+        weights,
         frames,
         marks,
         ways,
