@@ -10,10 +10,10 @@ use Rattle.fits.proofs.are_closed.Statement.{statement}
 use Rattle.fits.proofs.are_closed.Tie as tie
 
 abbrev Inv-loop : tie.InvT-loop
-Inv-loop obligation second m c l₀ l = every isClosed (itemTrees (word obligation second m) c) ≡ every isClosed (itemTrees (word obligation second m) l)
+Inv-loop obligation second m reaches c l₀ l = every isClosed (itemTrees (word obligation second m) c) ≡ every isClosed (itemTrees (word obligation second m) l)
 
 abbrev μ-loop : tie.MeasureT-loop
-μ-loop obligation second m c l₀ l = l
+μ-loop obligation second m reaches c l₀ l = l
 
 pub are-closed-spec : {M : Type 1} → statement M
 are-closed-spec = tie.close (tie.spec
