@@ -7,8 +7,8 @@ use lib.Dec.{eqb, ltb, leb}
 use native.Mathlib.Omega.{arith}
 use borrow.Author.Tests.{ltb-true, ltb-false, leb-true, leb-false, le-leb, lt-leb, ne-eqb}
 use Rattle.reader.specs.Tests.{both, ifEq, ifLt, ifTrue}
-use Rattle.reader.specs.Trees.{Tree, leaf, node}
-use Rattle.reader.specs.Variables.{binders, isIndex, replaced, isBound, indicesBelow, isTypeBelow, typesBelow}
+use Rattle.reader.specs.Trees.{Tree, leaf, node, same}
+use Rattle.reader.specs.Variables.{binders, isIndex, replaced, bears, isBound, indicesBelow, isTypeBelow, typesBelow}
 
 -- the larger of two numbers
 unfoldable pub larger : ℕ → ℕ → ℕ
@@ -135,3 +135,19 @@ replaced-closed d t (node k a x y z) h =
     let r = both-in _ _ (q .1) in
     rw (replaced-node d t k a x y z)
     (simp (bound-index k a d (p .0), replaced-closed d t x (q .0), replaced-closed (d + binders k) t y (r .0), replaced-closed d t z (r .1)))
+
+-- and no place of index d, whatever its type
+pub bears-node : (d : ℕ) (τ : Tree) (k a : ℕ) (x y z : Tree) → bears d τ (node k a x y z) ≡
+    ifTrue (isIndex k a d) (same y τ) (both (bears d τ x) (both (bears (d + binders k) τ y) (bears d τ z)))
+unfolding bears both ifTrue
+bears-node d τ k a x y z = refl
+
+pub bears-closed : (d : ℕ) (τ s : Tree) → indicesBelow d s ≡ true → bears d τ s ≡ true
+unfolding bears both ifTrue
+bears-closed d τ leaf h = refl
+bears-closed d τ (node k a x y z) h =
+    let p = both-in _ _ (rw (indices-both d k a x y z) at h) in
+    let q = both-in _ _ (p .1) in
+    let r = both-in _ _ (q .1) in
+    rw (bears-node d τ k a x y z)
+    (simp (both, ifTrue, bound-index k a d (p .0), bears-closed d τ x (q .0), bears-closed (d + binders k) τ y (r .0), bears-closed d τ z (r .1)))

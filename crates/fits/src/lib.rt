@@ -3,11 +3,11 @@ use closedness::tests;
 use equality::numbers;
 use reader::trees;
 use reader::words;
+use replacement::bears;
 use replacement::is_replaced;
 use rows::paths;
 use typing::instances;
 use typing::types;
-use typing::variables;
 ghost use mathlib.Core.Path.{_≡_};
 ghost use lib.ListN.{length};
 ghost use Rattle.reader.specs.Words.{word};
@@ -84,7 +84,7 @@ fn fits_quantified(
     if !numbers::same_at(obligation, second, m, numbers, own, wanted) {
         return false;
     }
-    is_replaced(obligation, second, m, instance, t, body)
+    is_replaced(obligation, second, m, numbers, reaches, instance, t, body)
 }
 
 // A kind 22, its instance and types: is the instance its formula with the types put in? The table is scratch.
@@ -120,8 +120,15 @@ fn fits_instance(
 }
 
 // B, t, u, B(t), B(u): "t and u one type", that of each place of index 0, and the last two parts are B with them put in.
-fn fits_places(obligation: &[u8], second: &[u8], m: usize, numbers: &[usize], n: usize) -> bool
-    requires { ⌜ Numbered (word (now obligation) (now second) m) (now numbers) (length (now numbers)) ⌝ }
+fn fits_places(
+    obligation: &[u8],
+    second: &[u8],
+    m: usize,
+    numbers: &[usize],
+    reaches: &[usize],
+    n: usize,
+) -> bool
+    requires { ⌜ Numbered (word (now obligation) (now second) m) (now numbers) (length (now numbers)) × Reached (word (now obligation) (now second) m) (now reaches) (length (now reaches)) ⌝ }
     ensures { λ r. ⌜ r ≡ places (partTrees (word (now (obligation .entry)) (now (second .entry)) m) n) ⌝ }
 {
     let body = paths::part_of(obligation, second, m, n, 0);
@@ -132,10 +139,10 @@ fn fits_places(obligation: &[u8], second: &[u8], m: usize, numbers: &[usize], n:
     if !numbers::same_at(obligation, second, m, numbers, t_type, u_type) {
         return false;
     }
-    if !variables::bears(obligation, second, m, numbers, body, 0, t_type) {
+    if !bears(obligation, second, m, numbers, reaches, body, t_type) {
         return false;
     }
-    fits_replaced(obligation, second, m, n, body, t, u)
+    fits_replaced(obligation, second, m, numbers, reaches, n, body, t, u)
 }
 
 // Are parts 3 and 4 of node n record `body` with t and with u in place of index 0?
@@ -143,19 +150,22 @@ fn fits_replaced(
     obligation: &[u8],
     second: &[u8],
     m: usize,
+    numbers: &[usize],
+    reaches: &[usize],
     n: usize,
     body: usize,
     t: usize,
     u: usize,
 ) -> bool
+    requires { ⌜ Numbered (word (now obligation) (now second) m) (now numbers) (length (now numbers)) × Reached (word (now obligation) (now second) m) (now reaches) (length (now reaches)) ⌝ }
     ensures { λ r. ⌜ r ≡ replacedParts (word (now (obligation .entry)) (now (second .entry)) m) n body t u ⌝ }
 {
     let with_t = paths::part_of(obligation, second, m, n, 3);
     let with_u = paths::part_of(obligation, second, m, n, 4);
-    if !is_replaced(obligation, second, m, with_t, t, body) {
+    if !is_replaced(obligation, second, m, numbers, reaches, with_t, t, body) {
         return false;
     }
-    is_replaced(obligation, second, m, with_u, u, body)
+    is_replaced(obligation, second, m, numbers, reaches, with_u, u, body)
 }
 
 // "B is open in index 0 at most", the other parts are closed, and the places fit.
@@ -179,7 +189,7 @@ fn fits_equality(
     if !are_closed(obligation, second, m, reaches, rest) {
         return false;
     }
-    fits_places(obligation, second, m, numbers, n)
+    fits_places(obligation, second, m, numbers, reaches, n)
 }
 
 // Do the parts of node n fit, as its rule asks? The table is scratch.

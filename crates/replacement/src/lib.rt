@@ -1,4 +1,5 @@
-// Replacement: is a record what another one is with index 0 replaced? What has no index to replace is compared at once.
+// Replacement: is a record what another one is with index 0 replaced, and have the places of index 0 one type? What has no index to replace is compared
+// at once.
 use closedness::tests;
 use equality::numbers;
 use reader::trees;
@@ -7,11 +8,12 @@ ghost use mathlib.Core.Path.{_≡_};
 ghost use Prim.Native.Nat.{_+_, _<_, _≤_};
 ghost use Rattle.reader.specs.Words.{word};
 ghost use Rattle.reader.specs.Trees.{tree, same};
-ghost use Rattle.reader.specs.Variables.{replaced};
+ghost use Rattle.reader.specs.Variables.{replaced, bears};
 ghost use lib.ListN.{length};
 ghost use Rattle.closedness.specs.Reaches.{Reached};
 ghost use Rattle.equality.specs.Least.{Numbered};
 ghost use Rattle.replacement.specs.Fits.{indexAt, deeper, fits, fitsChild};
+ghost use Rattle.replacement.specs.Places.{bearsAt, bearsChild};
 
 // Is record j the bound variable with index d?
 fn is_index(obligation: &[u8], second: &[u8], m: usize, j: usize, d: usize) -> bool
@@ -115,4 +117,69 @@ pub fn is_replaced(
     ensures { λ r. ⌜ r ≡ same (tree (word (now (obligation .entry)) (now (second .entry)) m) i) (replaced 0 (tree (word (now (obligation .entry)) (now (second .entry)) m) t) (tree (word (now (obligation .entry)) (now (second .entry)) m) j)) ⌝ }
 {
     fits_at(obligation, second, m, numbers, reaches, i, j, t, 0)
+}
+
+fn bears_child(
+    obligation: &[u8],
+    second: &[u8],
+    m: usize,
+    numbers: &[usize],
+    reaches: &[usize],
+    i: usize,
+    t: usize,
+    d: usize,
+    w: u8,
+) -> bool
+    requires { ⌜ (0 < i) × (d + i ≤ 18446744073709551616) × Numbered (word (now obligation) (now second) m) (now numbers) (length (now numbers)) × Reached (word (now obligation) (now second) m) (now reaches) (length (now reaches)) ⌝ }
+    ensures { λ r. ⌜ r ≡ bearsChild (word (now (obligation .entry)) (now (second .entry)) m) i t d w ⌝ }
+{
+    let x = trees::child_at(obligation, second, m, i, w);
+    bears_at(obligation, second, m, numbers, reaches, x, t, d)
+}
+
+// Does every occurrence of index d in record i bear type t?
+fn bears_at(
+    obligation: &[u8],
+    second: &[u8],
+    m: usize,
+    numbers: &[usize],
+    reaches: &[usize],
+    i: usize,
+    t: usize,
+    d: usize,
+) -> bool
+    requires { ⌜ (d + i < 18446744073709551616) × Numbered (word (now obligation) (now second) m) (now numbers) (length (now numbers)) × Reached (word (now obligation) (now second) m) (now reaches) (length (now reaches)) ⌝ }
+    ensures { λ r. ⌜ r ≡ bearsAt (word (now (obligation .entry)) (now (second .entry)) m) i t d ⌝ }
+{
+    if tests::indices_below(obligation, second, m, reaches, i, d) {
+        return true;
+    }
+    if is_index(obligation, second, m, i, d) {
+        let u = trees::child_at(obligation, second, m, i, 2);
+        return numbers::same_at(obligation, second, m, numbers, u, t);
+    }
+    if !bears_child(obligation, second, m, numbers, reaches, i, t, d, 1) {
+        return false;
+    }
+    let e = deeper_at(obligation, second, m, i, d);
+    if !bears_child(obligation, second, m, numbers, reaches, i, t, e, 2) {
+        return false;
+    }
+    bears_child(obligation, second, m, numbers, reaches, i, t, d, 3)
+}
+
+// Does every occurrence of index 0 in record i bear type t?
+pub fn bears(
+    obligation: &[u8],
+    second: &[u8],
+    m: usize,
+    numbers: &[usize],
+    reaches: &[usize],
+    i: usize,
+    t: usize,
+) -> bool
+    requires { ⌜ Numbered (word (now obligation) (now second) m) (now numbers) (length (now numbers)) × Reached (word (now obligation) (now second) m) (now reaches) (length (now reaches)) ⌝ }
+    ensures { λ r. ⌜ r ≡ bears 0 (tree (word (now (obligation .entry)) (now (second .entry)) m) t) (tree (word (now (obligation .entry)) (now (second .entry)) m) i) ⌝ }
+{
+    bears_at(obligation, second, m, numbers, reaches, i, t, 0)
 }

@@ -18,19 +18,19 @@ abbrev μ-loop : tie.MeasureT-loop
 pub are-closed-spec : {M : Type 1} → statement M
 are-closed-spec = tie.close (tie.spec
     Inv-loop μ-loop
-    -- loop-holds: 2 args
+    -- loop-holds: 3 args
     (λ c. refl)
-    -- lower-at-requires: loop-test; 1 loop; 4 args
+    -- lower-at-requires: loop-test; 1 loop; 5 args
     (λ c κs. search needs)
-    -- is-closed-requires: lower-at; 1 loop-test; 2 loop; 5 args
+    -- is-closed-requires: lower-at; 1 loop-test; 2 loop; 6 args
     (λ c κs. search needs)
-    -- returns: if1; 1 is-closed; 2 lower-at; 3 loop-test; 4 loop; 7 args
+    -- returns: if1; 1 is-closed; 2 lower-at; 3 loop-test; 4 loop; 8 args
     (λ c. search closed-stop)
-    -- lower-at-requires-2: if1; 1 is-closed; 2 lower-at; 3 loop-test; 4 loop; 7 args
+    -- lower-at-requires-2: if1; 1 is-closed; 2 lower-at; 3 loop-test; 4 loop; 8 args
     (λ c κs. search needs)
-    -- loop-less: lower-at2; 1 if1; 2 is-closed; 3 lower-at; 4 loop-test; 5 loop; 8 args
+    -- loop-less: lower-at2; 1 if1; 2 is-closed; 3 lower-at; 4 loop-test; 5 loop; 9 args
     (λ c. search next-falls)
-    -- loop-again: lower-at2; 1 if1; 2 is-closed; 3 lower-at; 4 loop-test; 5 loop; 8 args
+    -- loop-again: lower-at2; 1 if1; 2 is-closed; 3 lower-at; 4 loop-test; 5 loop; 9 args
     (λ c. search closed-more)
-    -- returns-2: loop-test; 1 loop; 4 args
+    -- returns-2: loop-test; 1 loop; 5 args
     (λ c. search closed-end))
