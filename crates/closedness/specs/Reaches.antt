@@ -11,7 +11,7 @@ use borrow.Author.Tests.{ltb-true, ltb-false, eq-eqb, ne-eqb, lt-ltb, le-ltb}
 use Rattle.reader.specs.Words.{Reader, le32, wordFrom, wordOf, through, word}
 use Rattle.reader.specs.Tests.{ifEq, ifLt, ifTrue}
 use Rattle.reader.specs.Kinds.{role, isNumber, isSymbol}
-use Rattle.reader.specs.Trees.{Tree, leaf, node, child, atom, tree}
+use Rattle.reader.specs.Trees.{child, atom, tree}
 use Rattle.reader.specs.Laws.{tree-zero, tree-step, child-below}
 use Rattle.reader.specs.Variables.{binders, indicesBelow, typesBelow}
 use Rattle.typing.specs.Shapes.{atom-first}
