@@ -5,7 +5,6 @@ pub mod Table
 pub mod Filling
 pub mod Parts
 pub mod Shapes
-pub mod Reach
 pub mod Reaches
 pub mod Replaced
 pub mod Marks

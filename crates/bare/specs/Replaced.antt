@@ -3,19 +3,19 @@ use Prim.Native.Nat.{ℕ, zero, suc, _+_, _*_, _<_, _≤_}
 use mathlib.Core.Path.{_≡_, refl, sym, _∙_}
 use mathlib.Core.List.{List}
 use mathlib.Core.Bool.{Bool, true, false, not, false≢true}
-use lib.Dec.{eqb, ltb}
+use lib.Dec.{eqb}
 use lib.ListN.{length}
 use native.Mathlib.Omega.{arith}
-use borrow.Author.Tests.{eq-eqb, ne-eqb, eqb-true, eqb-false, ltb-true, not-true, not-false}
+use borrow.Author.Tests.{eq-eqb, ne-eqb, eqb-true, eqb-false, not-true, not-false}
 use Rattle.reader.specs.Words.{Reader}
 use Rattle.reader.specs.Tests.{both, ifEq, eq-yes, eq-no}
 use Rattle.reader.specs.Trees.{Tree, leaf, node, kindOf, atomOf, firstOf, secondOf, thirdOf, sameHead, same}
-use Rattle.reader.specs.Variables.{binders, isIndex, isBound, indicesBelow, replaced}
+use Rattle.reader.specs.Variables.{binders, isIndex, indicesBelow, replaced}
+use Rattle.closedness.specs.Reach.{replaced-node, replaced-closed}
 use Rattle.bare.specs.Keys.{negationsOf, bodyOf, rank, decoded, Normal, key-one, key-same}
 use Rattle.bare.specs.Makers.{stands-none}
 use Rattle.bare.specs.Table.{Table}
 use Rattle.bare.specs.Parts.{Part, partOf, as-none}
-use Rattle.bare.specs.Reach.{indices-both}
 use Rattle.bare.specs.Reaches.{Reached}
 
 -- the tables that the test reads
@@ -143,35 +143,6 @@ all-parts rd x t j d (suc (suc (suc zero))) p h = go (fitsPart rd x t j d 1) (fi
     go true b c = refl
     go false b c = refl
 all-parts rd x t j d (suc (suc (suc (suc w)))) p h = absurd (omega arith)
-
--- "no unbound index" from d on: there is nothing to replace
-both-in : (a b : Bool) → both a b ≡ true → (a ≡ true) × (b ≡ true)
-unfolding both
-both-in true b h = (refl, h)
-both-in false b h = absurd (false≢true h)
-
-bound-index : (k a d : ℕ) → isBound k a d ≡ true → isIndex k a d ≡ false
-unfolding isBound isIndex
-bound-index k a d = go (eqb k 9)
-  where
-    go : (b : Bool) → elim b as (λ x. Bool) [ true ↦ ltb a d | false ↦ true ] ≡ true → elim b as (λ x. Bool) [ true ↦ eqb a d | false ↦ false ] ≡ false
-    go true h = ne-eqb a d (λ e. omega (arith, ltb-true a d h))
-    go false h = refl
-
-replaced-node : (d : ℕ) (t : Tree) (k a : ℕ) (x y z : Tree) → replaced d t (node k a x y z) ≡
-    elim (isIndex k a d) [ true ↦ t | false ↦ node k a (replaced d t x) (replaced (d + binders k) t y) (replaced d t z) ]
-unfolding replaced
-replaced-node d t k a x y z = refl
-
-replaced-closed : (d : ℕ) (t s : Tree) → indicesBelow d s ≡ true → replaced d t s ≡ s
-unfolding replaced
-replaced-closed d t leaf h = refl
-replaced-closed d t (node k a x y z) h =
-    let p = both-in _ _ (rw (indices-both d k a x y z) at h) in
-    let q = both-in _ _ (p .1) in
-    let r = both-in _ _ (q .1) in
-    rw (replaced-node d t k a x y z)
-    (simp (bound-index k a d (p .0), replaced-closed d t x (q .0), replaced-closed (d + binders k) t y (r .0), replaced-closed d t z (r .1)))
 
 -- one step, on trees that are no leaf
 module _ (d : ℕ) (t : Tree) where

@@ -1,56 +1,21 @@
 // Closedness: how far the indices of each record's tree reach, kept in a table, so that a test is one comparison.
+use closedness::reaches::larger;
+use closedness::reaches::own_reach;
+use closedness::reaches::under;
 use equality::keys::part_at;
 use reader::trees;
 use reader::words;
-ghost use mathlib.Core.Path.{_≡_};
 ghost use mathlib.Core.Bool.{false};
-ghost use Prim.Native.Nat.{_-_, _<_, _≤_};
+ghost use mathlib.Core.Path.{_≡_};
+ghost use Prim.Native.Nat.{_<_, _≤_};
 ghost use lib.ListN.{length, getD};
 ghost use Rattle.reader.specs.Words.{word};
-ghost use Rattle.reader.specs.Trees.{atom};
+ghost use Rattle.reader.specs.Variables.{indicesBelow};
 ghost use Rattle.equality.specs.Keys.{partEntry};
-ghost use Rattle.reader.specs.Variables.{binders, indicesBelow};
+ghost use Rattle.closedness.specs.Reach.{reach};
 ghost use Rattle.derivation_rules.specs.Erase.{bareTree};
 ghost use Rattle.bare.specs.Keys.{decoded, Normal};
-ghost use Rattle.bare.specs.Reach.{larger, ownReach, reach};
 ghost use Rattle.bare.specs.Reaches.{Indexed, Reached, nodeReach};
-
-fn larger(a: usize, b: usize) -> usize
-    ensures { λ r. ⌜ r ≡ larger a b ⌝ }
-{
-    if a < b { b } else { a }
-}
-
-// What is left of a second part's reach above a node of kind k.
-fn under(k: usize, y: usize) -> usize
-    ensures { λ r. ⌜ r ≡ y - binders k ⌝ }
-{
-    if k != 19 {
-        return y;
-    }
-    if y == 0 {
-        return 0;
-    }
-    y - 1
-}
-
-// Word 1 of record i: it is no larger than a word.
-fn index_at(obligation: &[u8], second: &[u8], m: usize, i: usize) -> usize
-    ensures { λ r. ⌜ (r ≡ word (now (obligation .entry)) (now (second .entry)) m i 1) × (r < 4294967296) ⌝ }
-{
-    words::word_at(obligation, second, m, i, 1)
-}
-
-// What record i, whose kind is k, reaches for itself.
-fn own_reach(obligation: &[u8], second: &[u8], m: usize, i: usize, k: usize) -> usize
-    requires { ⌜ k ≡ word (now obligation) (now second) m i 0 ⌝ }
-    ensures { λ r. ⌜ r ≡ ownReach k (atom (word (now (obligation .entry)) (now (second .entry)) m) i) ⌝ }
-{
-    if k != 9 {
-        return 0;
-    }
-    index_at(obligation, second, m, i) + 1
-}
 
 // Entry k of the table.
 fn entry(reaches: &[u8], k: usize) -> usize
@@ -89,17 +54,17 @@ fn node_reach(
     requires { ⌜ (k ≡ word (now obligation) (now second) m i 0) × (0 < i) × (i ≤ length (now reaches)) ⌝ }
     ensures { λ r. ⌜ r ≡ nodeReach (word (now (obligation .entry)) (now (second .entry)) m) (now (reaches .entry)) i ⌝ }
 {
-    let own = own_reach(obligation, second, m, i, k);
+    let own = own_reach(obligation, second, m, false, i, k);
     let x = part_reach(obligation, second, m, reaches, i, k, 1);
     let y = part_reach(obligation, second, m, reaches, i, k, 2);
     let z = part_reach(obligation, second, m, reaches, i, k, 3);
-    larger(own, larger(x, larger(under(k, y), z)))
+    larger(own, larger(x, larger(under(false, k, y), z)))
 }
 
 // The reach of record i, from those of smaller records.
 fn reach_of(obligation: &[u8], second: &[u8], m: usize, reaches: &[u8], i: usize) -> usize
     requires { ⌜ (0 < i) × (i ≤ length (now reaches)) × Reached (word (now obligation) (now second) m) (now reaches) i ⌝ }
-    ensures { λ r. ⌜ r ≡ reach (bareTree (word (now (obligation .entry)) (now (second .entry)) m) i) ⌝ }
+    ensures { λ r. ⌜ r ≡ reach false (bareTree (word (now (obligation .entry)) (now (second .entry)) m) i) ⌝ }
 {
     let k = words::word_at(obligation, second, m, i, 0);
     if k == 15 {
@@ -139,7 +104,7 @@ pub fn reach_at(
     key: usize,
 ) -> usize
     requires { ⌜ Normal (word (now obligation) (now second) m) (length (now keys)) key × (length (now keys) ≤ length (now reaches)) × Reached (word (now obligation) (now second) m) (now reaches) (length (now reaches)) ⌝ }
-    ensures { λ r. ⌜ r ≡ reach (decoded (word (now (obligation .entry)) (now (second .entry)) m) key) ⌝ }
+    ensures { λ r. ⌜ r ≡ reach false (decoded (word (now (obligation .entry)) (now (second .entry)) m) key) ⌝ }
 {
     let body = key % 262144;
     if body < 2 {

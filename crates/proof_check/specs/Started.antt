@@ -191,6 +191,9 @@ module _ (ob s : List ℕ) (a : Answer) (ea : a ≡ reading 1 ob s) where
         length scratch ≡ 12288 → Entering ob s m numbers memory scratch
     entering m n numbers memory scratch em en l k w = record { read = check-read; counted = em; all = rw (← en) l; long = k; wide = w }
 
--- the part of the table that is numbered
+-- the parts of the tables that are filled
 pub part-length : (k : ℕ) → k ≤ 4096 → length {A = ℕ} (take k (replicate 4096 0)) ≡ k
 part-length k h = length-take-le k (replicate 4096 0) h
+
+pub reaches-length : (k : ℕ) → k ≤ 4096 → length {A = ℕ} (take (2 * k) (replicate 8192 0)) ≡ 2 * k
+reaches-length k h = length-take-le (2 * k) (replicate 8192 0) (omega arith)

@@ -1,6 +1,7 @@
 // The proof check of two byte areas.
 use crate::start;
 use crate::walk;
+use closedness::fill::reach_all;
 use equality::numbers::number_all;
 use reader::Answer;
 use reader::words;
@@ -20,6 +21,7 @@ fn walk_proof(
     proof: &[u8],
     m: usize,
     numbers: &mut [usize],
+    reaches: &mut [usize],
     memory: &mut [usize],
     scratch: &mut [usize],
 ) -> Answer
@@ -27,9 +29,21 @@ fn walk_proof(
     ensures { λ r. ⌜ r ≡ proofWalk (word (now (obligation .entry)) (now (proof .entry)) m) (rootOf (now (proof .entry))) ⌝ }
 {
     number_all(obligation, proof, m, numbers, scratch);
+    reach_all(obligation, proof, m, reaches);
     let h = start::store_start(obligation, proof, m, numbers, memory);
     let root = words::word_of(proof, 0, 2);
-    walk::walk_node(obligation, proof, m, numbers, memory, scratch, h, root, 0)
+    walk::walk_node(
+        obligation,
+        proof,
+        m,
+        numbers,
+        reaches,
+        memory,
+        scratch,
+        h,
+        root,
+        0,
+    )
 }
 
 // The answer to an obligation and a proof, any two byte areas.
@@ -42,14 +56,17 @@ pub fn check_proof(obligation: &[u8], proof: &[u8]) -> Answer
     }
     let m = words::word_of(obligation, 0, 1);
     let n = words::word_of(proof, 0, 1);
+    let size = m + n + 1;
     let mut numbers = [0usize; 4096];
+    let mut reaches = [0usize; 8192];
     let mut memory = [0usize; 1024];
     let mut scratch = [0usize; 12288];
     walk_proof(
         obligation,
         proof,
         m,
-        &mut numbers[..m + n + 1],
+        &mut numbers[..size],
+        &mut reaches[..2 * size],
         &mut memory,
         &mut scratch,
     )

@@ -8,9 +8,11 @@ use rows::needs;
 use rows::paths;
 ghost use mathlib.Core.Path.{_≡_};
 ghost use Prim.Native.Nat.{_≤_};
+ghost use lib.ListN.{length};
 ghost use Rattle.reader.specs.Words.{word};
 ghost use Rattle.reader.specs.Tests.{every};
 ghost use Rattle.reader.specs.Trees.{tree, atomOf};
+ghost use Rattle.closedness.specs.Reaches.{Reached};
 ghost use Rattle.proof_rules.specs.Rules.{Row};
 ghost use Rattle.proof_rules.specs.Check.{isFresh, rowOf, nodeFault};
 ghost use Rattle.members.specs.Sequents.{sequent};
@@ -107,15 +109,16 @@ fn fit_fault(
     second: &[u8],
     m: usize,
     numbers: &[usize],
+    reaches: &[usize],
     memory: &[usize],
     scratch: &mut [usize],
     h: usize,
     n: usize,
 ) -> usize
-    requires { ⌜ At (word (now obligation) (now second) m) (now numbers) (now memory) (now scratch) h n ⌝ }
+    requires { ⌜ At (word (now obligation) (now second) m) (now numbers) (now memory) (now scratch) h n × Reached (word (now obligation) (now second) m) (now reaches) (length (now reaches)) ⌝ }
     ensures { λ r. ⌜ r ≡ fitFault (word (now (obligation .entry)) (now (second .entry)) m) (sequent (word (now (obligation .entry)) (now (second .entry)) m) (now (memory .entry)) h) n ⌝ }
 {
-    if !fits::fits(obligation, second, m, numbers, scratch, n) {
+    if !fits::fits(obligation, second, m, numbers, reaches, scratch, n) {
         return 15;
     }
     if !constant_fresh(obligation, second, m, numbers, memory, scratch, h, n) {
@@ -134,17 +137,28 @@ pub fn node_fault(
     second: &[u8],
     m: usize,
     numbers: &[usize],
+    reaches: &[usize],
     memory: &[usize],
     scratch: &mut [usize],
     h: usize,
     n: usize,
 ) -> usize
-    requires { ⌜ At (word (now obligation) (now second) m) (now numbers) (now memory) (now scratch) h n ⌝ }
+    requires { ⌜ At (word (now obligation) (now second) m) (now numbers) (now memory) (now scratch) h n × Reached (word (now obligation) (now second) m) (now reaches) (length (now reaches)) ⌝ }
     ensures { λ r. ⌜ r ≡ nodeFault (word (now (obligation .entry)) (now (second .entry)) m) (sequent (word (now (obligation .entry)) (now (second .entry)) m) (now (memory .entry)) h) n ⌝ }
 {
     let why = form_fault(obligation, second, m, numbers, memory, scratch, h, n);
     if why != 0 {
         return why;
     }
-    fit_fault(obligation, second, m, numbers, memory, scratch, h, n)
+    fit_fault(
+        obligation,
+        second,
+        m,
+        numbers,
+        reaches,
+        memory,
+        scratch,
+        h,
+        n,
+    )
 }

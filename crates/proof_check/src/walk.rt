@@ -9,6 +9,7 @@ ghost use Prim.Native.Nat.{_+_, _<_, _≤_};
 ghost use lib.ListN.{length, take};
 ghost use Rattle.reader.specs.Words.{word};
 ghost use Rattle.reader.specs.Kinds.{isRule};
+ghost use Rattle.closedness.specs.Reaches.{Reached};
 ghost use Rattle.proof_rules.specs.Check.{nodeFault, premiseSequent};
 ghost use Rattle.accepted.specs.Under.{under, underLinks};
 ghost use Rattle.members.specs.Sequents.{sequent};
@@ -21,6 +22,7 @@ fn walk_premise(
     second: &[u8],
     m: usize,
     numbers: &[usize],
+    reaches: &[usize],
     memory: &mut [usize],
     scratch: &mut [usize],
     h: usize,
@@ -29,11 +31,22 @@ fn walk_premise(
     b: usize,
     count: usize,
 ) -> Answer
-    requires { ⌜ At (word (now obligation) (now second) m) (now numbers) (now memory) (now scratch) h x × (n < length (now numbers)) × (nodeFault (word (now obligation) (now second) m) (sequent (word (now obligation) (now second) m) (now memory) h) n ≡ 0) × (isRule 1 (word (now obligation) (now second) m x 0) ≡ true) × (count + under 1 (word (now obligation) (now second) m) x ≤ 4294967296) ⌝ }
+    requires { ⌜ At (word (now obligation) (now second) m) (now numbers) (now memory) (now scratch) h x × (n < length (now numbers)) × (nodeFault (word (now obligation) (now second) m) (sequent (word (now obligation) (now second) m) (now memory) h) n ≡ 0) × (isRule 1 (word (now obligation) (now second) m x 0) ≡ true) × (count + under 1 (word (now obligation) (now second) m) x ≤ 4294967296) × Reached (word (now obligation) (now second) m) (now reaches) (length (now reaches)) ⌝ }
     ensures { λ r. ⌜ (r ≡ visit (word (now (obligation .entry)) (now (second .entry)) m) x (premiseSequent (word (now (obligation .entry)) (now (second .entry)) m) (sequent (word (now (obligation .entry)) (now (second .entry)) m) (now (memory .entry)) h) n b) count) × (take h (now (memory .exit)) ≡ take h (now (memory .entry))) ⌝ }
 {
     let i = adds::add_premise(obligation, second, m, numbers, memory, h, n, b);
-    walk_node(obligation, second, m, numbers, memory, scratch, i, x, count)
+    walk_node(
+        obligation,
+        second,
+        m,
+        numbers,
+        reaches,
+        memory,
+        scratch,
+        i,
+        x,
+        count,
+    )
 }
 
 // The walk along the premises of node n from premise b on, which link c names.
@@ -42,6 +55,7 @@ fn walk_links(
     second: &[u8],
     m: usize,
     numbers: &[usize],
+    reaches: &[usize],
     memory: &mut [usize],
     scratch: &mut [usize],
     h: usize,
@@ -50,7 +64,7 @@ fn walk_links(
     b: usize,
     count: usize,
 ) -> Answer
-    requires { ⌜ At (word (now obligation) (now second) m) (now numbers) (now memory) (now scratch) h c × (n < length (now numbers)) × (nodeFault (word (now obligation) (now second) m) (sequent (word (now obligation) (now second) m) (now memory) h) n ≡ 0) × AreNodes (word (now obligation) (now second) m) c × (count + underLinks 1 (word (now obligation) (now second) m) c ≤ 4294967296) × (b + c ≤ 4294967296) ⌝ }
+    requires { ⌜ At (word (now obligation) (now second) m) (now numbers) (now memory) (now scratch) h c × (n < length (now numbers)) × (nodeFault (word (now obligation) (now second) m) (sequent (word (now obligation) (now second) m) (now memory) h) n ≡ 0) × AreNodes (word (now obligation) (now second) m) c × (count + underLinks 1 (word (now obligation) (now second) m) c ≤ 4294967296) × (b + c ≤ 4294967296) × Reached (word (now obligation) (now second) m) (now reaches) (length (now reaches)) ⌝ }
     ensures { λ r. ⌜ (r ≡ follow (word (now (obligation .entry)) (now (second .entry)) m) c n b (sequent (word (now (obligation .entry)) (now (second .entry)) m) (now (memory .entry)) h) count) × (take h (now (memory .exit)) ≡ take h (now (memory .entry))) ⌝ }
 {
     if c == 0 {
@@ -68,6 +82,7 @@ fn walk_links(
         second,
         m,
         numbers,
+        reaches,
         memory,
         scratch,
         h,
@@ -84,6 +99,7 @@ fn walk_links(
         second,
         m,
         numbers,
+        reaches,
         memory,
         scratch,
         h,
@@ -100,13 +116,14 @@ pub fn walk_node(
     second: &[u8],
     m: usize,
     numbers: &[usize],
+    reaches: &[usize],
     memory: &mut [usize],
     scratch: &mut [usize],
     h: usize,
     n: usize,
     count: usize,
 ) -> Answer
-    requires { ⌜ At (word (now obligation) (now second) m) (now numbers) (now memory) (now scratch) h n × (isRule 1 (word (now obligation) (now second) m n 0) ≡ true) × (count + under 1 (word (now obligation) (now second) m) n ≤ 4294967296) ⌝ }
+    requires { ⌜ At (word (now obligation) (now second) m) (now numbers) (now memory) (now scratch) h n × (isRule 1 (word (now obligation) (now second) m n 0) ≡ true) × (count + under 1 (word (now obligation) (now second) m) n ≤ 4294967296) × Reached (word (now obligation) (now second) m) (now reaches) (length (now reaches)) ⌝ }
     ensures { λ r. ⌜ (r ≡ visit (word (now (obligation .entry)) (now (second .entry)) m) n (sequent (word (now (obligation .entry)) (now (second .entry)) m) (now (memory .entry)) h) count) × (take h (now (memory .exit)) ≡ take h (now (memory .entry))) ⌝ }
 {
     if n == 0 {
@@ -117,7 +134,17 @@ pub fn walk_node(
             nodes: count,
         };
     }
-    let why = nodes::node_fault(obligation, second, m, numbers, memory, scratch, h, n);
+    let why = nodes::node_fault(
+        obligation,
+        second,
+        m,
+        numbers,
+        reaches,
+        memory,
+        scratch,
+        h,
+        n,
+    );
     if why != 0 {
         return Answer {
             refusal: why,
@@ -132,6 +159,7 @@ pub fn walk_node(
         second,
         m,
         numbers,
+        reaches,
         memory,
         scratch,
         h,

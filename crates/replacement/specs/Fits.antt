@@ -1,16 +1,17 @@
 -- Replacement at records, as one step, and the ways out of the code that tests it.
 use Prim.Native.Nat.{ℕ, zero, suc, _+_, _*_, _<_, _≤_}
-use mathlib.Core.Path.{_≡_, refl, sym}
-use mathlib.Core.Bool.{Bool, true, false}
-use lib.Dec.{eqb, eqb·suc-zero}
+use mathlib.Core.Path.{_≡_, refl, sym, _∙_}
+use mathlib.Core.Bool.{Bool, true, false, false≢true}
+use lib.Dec.{eqb}
 use native.Mathlib.Omega.{arith}
 use borrow.Author.Tests.{ne-eqb, eq-eqb}
 use Rattle.reader.specs.Words.{Reader}
 use Rattle.reader.specs.Tests.{both}
-use Rattle.reader.specs.Trees.{Tree, leaf, node, child, atom, tree, same, sameHead}
-use Rattle.reader.specs.Variables.{binders, isIndex, replaced}
+use Rattle.reader.specs.Trees.{Tree, node, child, atom, tree, same, sameHead}
+use Rattle.reader.specs.Variables.{binders, isIndex, replaced, indicesBelow}
 use Rattle.reader.specs.Laws.{tree-zero, tree-step, child-below}
 use Rattle.reader.specs.SameLaws.{sameHeadAt}
+use Rattle.closedness.specs.Reach.{replaced-closed}
 
 -- record j is the bound variable with index d
 unfoldable pub indexAt : Reader → ℕ → ℕ → Bool
@@ -61,18 +62,29 @@ replaced-step : (rd : Reader) (j d : ℕ) (t : Tree) → (j ≡ 0 → ⊥) → r
 unfolding replaced indexAt deeper
 replaced-step rd j d t p = rw (tree-step rd j (omega arith))
 
-same-leaf : (rd : Reader) (i : ℕ) → same (tree rd i) leaf ≡ eqb i 0
-unfolding same
-same-leaf rd zero = rw (tree-zero rd)
-same-leaf rd (suc i) = rw (tree-step rd (suc i) (omega arith)) (sym (eqb·suc-zero i))
+-- a record with an index from d on is not 0
+pub open-positive : (rd : Reader) (j d : ℕ) (b : Bool) → b ≡ indicesBelow d (tree rd j) → b ≡ false → 0 < j
+unfolding indicesBelow
+open-positive rd zero d b eb some =
+    let closed : indicesBelow d (tree rd 0) ≡ true = rw (tree-zero rd) refl in
+    absurd (false≢true (sym some ∙ eb ∙ closed))
+open-positive rd (suc j) d b eb some = omega arith
+
+-- from a record to the function for its parts, at the same depth or one more
+pub open-parts : (rd : Reader) (j d e n : ℕ) (b : Bool) → b ≡ indicesBelow d (tree rd j) → b ≡ false → 2 * j + 1 ≡ n → d + j < 18446744073709551616 → e ≤ d + 1 →
+    (2 * j < n) × (0 < j) × (e + j ≤ 18446744073709551616)
+open-parts rd j d e n b eb some en small deep = let p : 0 < j = open-positive rd j d b eb some in (omega arith, p, omega arith)
 
 -- The ways out of `fits_at`.
-module _ (rd : Reader) (i j t d : ℕ) where
-  pub fits-none : j ≡ 0 → eqb i 0 ≡ fits rd i j t d
-  unfolding fits replaced
-  fits-none h = rw (h, tree-zero rd) (sym (same-leaf rd i))
+module _ (rd : Reader) (i j t d : ℕ) (b : Bool) (eb : b ≡ indicesBelow d (tree rd j)) where
+  pub fits-closed : b ≡ true → (s : Bool) → s ≡ same (tree rd i) (tree rd j) → s ≡ fits rd i j t d
+  unfolding fits
+  fits-closed h s e = rw (replaced-closed d (tree rd t) (tree rd j) (sym eb ∙ h)) e
 
-  module _ (pos : j ≡ 0 → ⊥) (r : Bool) (er : r ≡ indexAt rd j d) where
+  module _ (some : b ≡ false) (r : Bool) (er : r ≡ indexAt rd j d) where
+    pos : j ≡ 0 → ⊥
+    pos h = let p : 0 < j = open-positive rd j d b eb some in omega arith
+
     pub fits-index : r ≡ true → (s : Bool) → s ≡ same (tree rd i) (tree rd t) → s ≡ fits rd i j t d
     unfolding fits
     fits-index h s e = rw (replaced-step rd j d (tree rd t) pos) (simp (← er, h) e)

@@ -5,7 +5,7 @@ use Rattle.replacement.proofs.is_replaced.Tie as tie
 
 pub is-replaced-spec : {M : Type 1} → statement M
 is-replaced-spec = tie.close (tie.spec
-    -- fits-at-requires: 2 args
+    -- fits-at-requires: 4 args
     (λ c κs. search needs)
-    -- returns: fits-at; 3 args
+    -- returns: fits-at; 5 args
     (λ c. search fits-whole))

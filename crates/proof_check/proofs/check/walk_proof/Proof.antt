@@ -5,19 +5,23 @@ use Rattle.proof_check.proofs.check.walk_proof.Tie as tie
 
 pub walk-proof-spec : {M : Type 1} → statement M
 walk-proof-spec = tie.close (tie.spec
-    -- number-all-requires: number-all-arg2; 1 number-all-arg; 7 args
-    (λ c κs. enter-slots _ _ _ _ _ _ (c .before .before .before .before .before .before .before .pre))
-    -- store-start-requires: store-start-arg2; 1 store-start-arg; 3 scratch; 5 numbers; 6 number-all; 7 number-all-arg2; 8 number-all-arg; 14 args
-    (λ c κs. enter-start _ _ _ _ _ _ (c .before .before .before .before .before .before .before .before .before .before .before .before .before .before .pre) _ (c .before .before .before .before .before .before .number-all .kept .1 .1 .1 .0) (c .before .before .before .before .before .before .number-all .ensures))
-    -- word-of-requires: 1 memory; 2 store-start; 3 store-start-arg2; 4 store-start-arg; 6 scratch; 8 numbers; 9 number-all; 10 number-all-arg2; 11 number-all-arg; 17 args
+    -- number-all-requires: number-all-arg2; 1 number-all-arg; 8 args
+    (λ c κs. enter-slots _ _ _ _ _ _ (c .before .before .before .before .before .before .before .before .pre))
+    -- reach-all-requires: reach-all-arg; 2 scratch; 4 numbers; 5 number-all; 6 number-all-arg2; 7 number-all-arg; 14 args
     (λ c κs. search needs)
-    -- walk-node-requires: walk-node-arg3; 1 walk-node-arg2; 2 walk-node-arg; 3 word-of; 5 memory; 6 store-start; 7 store-start-arg2; 8 store-start-arg; 10 scratch; 12 numbers; 13 number-all; 14 number-all-arg2; 15 number-all-arg; 21 args
-    (λ c κs. (enter-at _ _ _ _ _ _ (c .before .before .before .before .before .before .before .before .before .before .before .before .before .before .before .before .before .before .before .before .before .pre) _ _ _ _ _ (c .before .before .before .before .before .before .before .before .before .before .before .before .before .number-all .kept .1 .1 .1 .0) (c .before .before .before .before .before .before .before .before .before .before .before .before .before .number-all .kept .1 .1 .1 .1 .0) (c .before .before .before .before .before .before .store-start .ensures .0) (c .before .before .before .word-of .ensures), enter-rule _ _ _ _ _ _ (c .before .before .before .before .before .before .before .before .before .before .before .before .before .before .before .before .before .before .before .before .before .pre) _ (c .before .before .before .word-of .ensures), enter-count _ _ _ _ _ _ (c .before .before .before .before .before .before .before .before .before .before .before .before .before .before .before .before .before .before .before .before .before .pre) _ (c .before .before .before .word-of .ensures)))
-    -- same-length: 1 scratch2; 3 memory2; 4 walk-node; 5 walk-node-arg3; 6 walk-node-arg2; 7 walk-node-arg; 8 word-of; 10 memory; 11 store-start; 12 store-start-arg2; 13 store-start-arg; 15 scratch; 17 numbers; 18 number-all; 19 number-all-arg2; 20 number-all-arg; 26 args
+    -- store-start-requires: store-start-arg2; 1 store-start-arg; 3 reaches; 4 reach-all; 5 reach-all-arg; 7 scratch; 9 numbers; 10 number-all; 11 number-all-arg2; 12 number-all-arg; 19 args
+    (λ c κs. enter-start _ _ _ _ _ _ (c .before .before .before .before .before .before .before .before .before .before .before .before .before .before .before .before .before .before .before .pre) _ (c .before .before .before .before .before .before .before .before .before .before .number-all .kept .1 .1 .1 .0) (c .before .before .before .before .before .before .before .before .before .before .number-all .ensures))
+    -- word-of-requires: 1 memory; 2 store-start; 3 store-start-arg2; 4 store-start-arg; 6 reaches; 7 reach-all; 8 reach-all-arg; 10 scratch; 12 numbers; 13 number-all; 14 number-all-arg2; 15 number-all-arg; 22 args
+    (λ c κs. search needs)
+    -- walk-node-requires: walk-node-arg4; 1 walk-node-arg3; 2 walk-node-arg2; 3 walk-node-arg; 4 word-of; 6 memory; 7 store-start; 8 store-start-arg2; 9 store-start-arg; 11 reaches; 12 reach-all; 13 reach-all-arg; 15 scratch; 17 numbers; 18 number-all; 19 number-all-arg2; 20 number-all-arg; 27 args
+    (λ c κs. (enter-at _ _ _ _ _ _ (c .before .before .before .before .before .before .before .before .before .before .before .before .before .before .before .before .before .before .before .before .before .before .before .before .before .before .before .pre) _ _ _ _ _ (c .before .before .before .before .before .before .before .before .before .before .before .before .before .before .before .before .before .before .number-all .kept .1 .1 .1 .0) (c .before .before .before .before .before .before .before .before .before .before .before .before .before .before .before .before .before .before .number-all .kept .1 .1 .1 .1 .0) (c .before .before .before .before .before .before .before .store-start .ensures .0) (c .before .before .before .before .word-of .ensures), enter-rule _ _ _ _ _ _ (c .before .before .before .before .before .before .before .before .before .before .before .before .before .before .before .before .before .before .before .before .before .before .before .before .before .before .before .pre) _ (c .before .before .before .before .word-of .ensures), enter-count _ _ _ _ _ _ (c .before .before .before .before .before .before .before .before .before .before .before .before .before .before .before .before .before .before .before .before .before .before .before .before .before .before .before .pre) _ (c .before .before .before .before .word-of .ensures), c .before .before .before .before .before .before .before .before .before .before .before .before .reach-all .ensures))
+    -- same-length: 1 scratch2; 3 memory2; 4 walk-node; 5 walk-node-arg4; 6 walk-node-arg3; 7 walk-node-arg2; 8 walk-node-arg; 9 word-of; 11 memory; 12 store-start; 13 store-start-arg2; 14 store-start-arg; 16 reaches; 17 reach-all; 18 reach-all-arg; 20 scratch; 22 numbers; 23 number-all; 24 number-all-arg2; 25 number-all-arg; 32 args
     (λ c. search needs)
-    -- same-length-2: 1 scratch2; 3 memory2; 4 walk-node; 5 walk-node-arg3; 6 walk-node-arg2; 7 walk-node-arg; 8 word-of; 10 memory; 11 store-start; 12 store-start-arg2; 13 store-start-arg; 15 scratch; 17 numbers; 18 number-all; 19 number-all-arg2; 20 number-all-arg; 26 args
+    -- same-length-2: 1 scratch2; 3 memory2; 4 walk-node; 5 walk-node-arg4; 6 walk-node-arg3; 7 walk-node-arg2; 8 walk-node-arg; 9 word-of; 11 memory; 12 store-start; 13 store-start-arg2; 14 store-start-arg; 16 reaches; 17 reach-all; 18 reach-all-arg; 20 scratch; 22 numbers; 23 number-all; 24 number-all-arg2; 25 number-all-arg; 32 args
     (λ c. search needs)
-    -- same-length-3: 1 scratch2; 3 memory2; 4 walk-node; 5 walk-node-arg3; 6 walk-node-arg2; 7 walk-node-arg; 8 word-of; 10 memory; 11 store-start; 12 store-start-arg2; 13 store-start-arg; 15 scratch; 17 numbers; 18 number-all; 19 number-all-arg2; 20 number-all-arg; 26 args
+    -- same-length-3: 1 scratch2; 3 memory2; 4 walk-node; 5 walk-node-arg4; 6 walk-node-arg3; 7 walk-node-arg2; 8 walk-node-arg; 9 word-of; 11 memory; 12 store-start; 13 store-start-arg2; 14 store-start-arg; 16 reaches; 17 reach-all; 18 reach-all-arg; 20 scratch; 22 numbers; 23 number-all; 24 number-all-arg2; 25 number-all-arg; 32 args
     (λ c. search needs)
-    -- returns: 1 scratch2; 3 memory2; 4 walk-node; 5 walk-node-arg3; 6 walk-node-arg2; 7 walk-node-arg; 8 word-of; 10 memory; 11 store-start; 12 store-start-arg2; 13 store-start-arg; 15 scratch; 17 numbers; 18 number-all; 19 number-all-arg2; 20 number-all-arg; 26 args
-    (λ c. walk-proof _ _ _ _ _ _ (c .before .before .before .before .before .before .before .before .word-of .ensures) (c .before .before .before .before .before .before .before .before .before .before .before .store-start .ensures .1) (c .before .before .before .before .walk-node .ensures .0)))
+    -- same-length-4: 1 scratch2; 3 memory2; 4 walk-node; 5 walk-node-arg4; 6 walk-node-arg3; 7 walk-node-arg2; 8 walk-node-arg; 9 word-of; 11 memory; 12 store-start; 13 store-start-arg2; 14 store-start-arg; 16 reaches; 17 reach-all; 18 reach-all-arg; 20 scratch; 22 numbers; 23 number-all; 24 number-all-arg2; 25 number-all-arg; 32 args
+    (λ c. search needs)
+    -- returns: 1 scratch2; 3 memory2; 4 walk-node; 5 walk-node-arg4; 6 walk-node-arg3; 7 walk-node-arg2; 8 walk-node-arg; 9 word-of; 11 memory; 12 store-start; 13 store-start-arg2; 14 store-start-arg; 16 reaches; 17 reach-all; 18 reach-all-arg; 20 scratch; 22 numbers; 23 number-all; 24 number-all-arg2; 25 number-all-arg; 32 args
+    (λ c. walk-proof _ _ _ _ _ _ (c .before .before .before .before .before .before .before .before .before .word-of .ensures) (c .before .before .before .before .before .before .before .before .before .before .before .before .store-start .ensures .1) (c .before .before .before .before .walk-node .ensures .0)))

@@ -1,8 +1,8 @@
 use borrow.Author.Needs.{needs}
 use native.Mathlib.Omega.{arith}
-use Rattle.bare.specs.Reaches.{word-small}
-use Rattle.bare.proofs.closed.index_at.Statement.{statement}
-use Rattle.bare.proofs.closed.index_at.Tie as tie
+use Rattle.closedness.specs.Reaches.{word-small}
+use Rattle.closedness.proofs.reaches.index_at.Statement.{statement}
+use Rattle.closedness.proofs.reaches.index_at.Tie as tie
 
 pub index-at-spec : {M : Type 1} → statement M
 index-at-spec = tie.close (tie.spec
