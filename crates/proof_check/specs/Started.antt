@@ -3,7 +3,7 @@ use Prim.Native.Nat.{ℕ, zero, suc, _+_, _*_, _<_, _≤_}
 use mathlib.Core.Path.{_≡_, refl, sym, ap, _∙_}
 use mathlib.Core.List.{List, [], _∷_, _++_, append-assoc, append-nil}
 use mathlib.Core.Bool.{Bool, true, false}
-use lib.ListN.{length, take, replicate}
+use lib.ListN.{length, take, replicate, length-replicate}
 use lib.Seq.{length-take-le}
 use native.Mathlib.Omega.{arith}
 use borrow.Author.Tests.{eq-eqb, ne-eqb}
@@ -42,7 +42,7 @@ pub record Entering (ob s : List ℕ) (m : ℕ) (numbers memory scratch : List �
   pub counted : m ≡ countOf ob
   pub all : length numbers ≡ m + countOf s + 1
   pub long : length memory ≡ 1024
-  pub wide : length scratch ≡ 12288
+  pub wide : length scratch ≡ 4096
 
 -- an empty sequent
 pub ready-none : (rd : Reader) (numbers memory : List ℕ) → Starting rd numbers memory → Ready rd numbers memory 0
@@ -125,9 +125,6 @@ module _ (ob s : List ℕ) (m : ℕ) (numbers memory scratch : List ℕ) (enter 
   pub enter-small : length numbers ≤ 4096
   enter-small = omega (arith, enter .all, enter .counted, obligation-few ob s (enter .read), proof-few ob s (enter .read))
 
-  pub enter-slots : 4096 + 2 * length numbers ≤ length scratch
-  enter-slots = omega (arith, enter .wide, enter-small)
-
   enter-last : length numbers ≡ lastOf ob s + 1
   enter-last = omega (arith, enter .all, enter .counted)
 
@@ -188,7 +185,7 @@ module _ (ob s : List ℕ) (a : Answer) (ea : a ≡ reading 1 ob s) where
     counts-few m n em en = omega (arith, obligation-few ob s check-read, proof-few ob s check-read)
 
     pub entering : (m n : ℕ) (numbers memory scratch : List ℕ) → m ≡ wordOf ob 0 1 → n ≡ wordOf s 0 1 → length numbers ≡ m + n + 1 → length memory ≡ 1024 →
-        length scratch ≡ 12288 → Entering ob s m numbers memory scratch
+        length scratch ≡ 4096 → Entering ob s m numbers memory scratch
     entering m n numbers memory scratch em en l k w = record { read = check-read; counted = em; all = rw (← en) l; long = k; wide = w }
 
 -- the parts of the tables that are filled
@@ -197,3 +194,7 @@ part-length k h = length-take-le k (replicate 4096 0) h
 
 pub reaches-length : (k : ℕ) → k ≤ 4096 → length {A = ℕ} (take (2 * k) (replicate 8192 0)) ≡ 2 * k
 reaches-length k h = length-take-le (2 * k) (replicate 8192 0) (omega arith)
+
+-- the slots' length
+pub slots-long : (size : ℕ) → size ≤ 4096 → 4096 + 2 * size ≤ length {A = ℕ} (replicate 12288 0)
+slots-long size h = let long : length {A = ℕ} (replicate 12288 0) ≡ 12288 = length-replicate {A = ℕ} 12288 0 in rw long (omega arith)
