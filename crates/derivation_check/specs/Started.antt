@@ -18,13 +18,14 @@ use Rattle.reader.specs.Answers.{orAnswer}
 use Rattle.reader.specs.Places.{mostRecords, hypothesisChain, negatedGoal, countOf, rootOf, reading}
 use Rattle.typing.specs.Shapes.{first-tree, child-zero}
 use Rattle.accepted.specs.File.{ReadObligation, ReadSecond, beside, lastOf, reading-parts, length-parts, header-parts, counts-parts}
-use Rattle.accepted.specs.Pair.{rule-range, root-range, pair-goal-range, pair-hypotheses-range, pair-hypotheses-limit}
+use Rattle.accepted.specs.Parts.{bound-variable-first}
+use Rattle.accepted.specs.Pair.{header-kind, pair-sound, rule-range, root-range, pair-goal-range, pair-hypotheses-range, pair-hypotheses-limit}
 use Rattle.accepted.specs.Under.{under, root-under}
 use Rattle.derivation_rules.specs.Erase.{bareTree}
 use Rattle.derivation_rules.specs.Check.{hypotheses, goalOf, startSequent, derivationWalk, derivationAnswer}
 use Rattle.bare.specs.Keys.{decoded}
 use Rattle.bare.specs.Table.{Table, KeyOf}
-use Rattle.bare.specs.Reaches.{Reached}
+use Rattle.bare.specs.Reaches.{Indexed, Reached}
 use Rattle.derivation_nodes.specs.Frames.{goalAt, chainTrees, membersAt, stateOf, Framed, Written}
 use Rattle.derivation_nodes.specs.Pushed.{members-set, framed-set}
 use Rattle.derivation_nodes.specs.Needs.{At}
@@ -71,13 +72,14 @@ root-written rd keys before after chain negated formula goal count s ec en ef ke
     goal-is = ap (decoded rd) (w .goal-is) ∙ key .stands .means ∙ rw (ef, en, first-tree rd (negatedGoal rd)) refl
 
 -- the pair passes places 1 to 12, and the tables have their lengths
-pub record Entering (ob s : List ℕ) (m : ℕ) (keys reaches frames marks ways : List ℕ) : Type 0 where
+pub record Entering (ob s : List ℕ) (m : ℕ) (keys slots reaches frames marks ways : List ℕ) : Type 0 where
   pub read : reading 2 ob s .refusal ≡ 0
   pub counted : m ≡ countOf ob
   pub all : length keys ≡ m + countOf s + 1
-  pub far : length reaches ≡ 201024
+  pub room : 406144 ≤ length slots
+  pub far : length reaches ≡ m + countOf s + 1
   pub long : length frames ≡ 32776
-  pub wide : length marks ≡ 201024
+  pub wide : 201024 ≤ length marks
   pub deep : length ways ≡ 24582
 
 -- Pairs that pass places 1 to 12.
@@ -100,9 +102,12 @@ module _ (ob s : List ℕ) (read : reading 2 ob s .refusal ≡ 0) where
       omega (arith, a .2, b .1)
 
 -- The conditions of the calls of `walk_derivation`.
-module _ (ob s : List ℕ) (m : ℕ) (keys reaches frames marks ways : List ℕ) (enter : Entering ob s m keys reaches frames marks ways) where
+module _ (ob s : List ℕ) (m : ℕ) (keys slots reaches frames marks ways : List ℕ) (enter : Entering ob s m keys slots reaches frames marks ways) where
   pub enter-small : length keys ≤ 201024
   enter-small = omega (arith, enter .all, enter .counted, obligation-few ob s (enter .read), derivation-few ob s (enter .read))
+
+  pub enter-slots : (length keys ≤ 262143) × (4096 + 2 * length keys ≤ length slots)
+  enter-slots = (omega (arith, enter-small), omega (arith, enter-small, enter .room))
 
   enter-last : length keys ≡ lastOf ob s + 1
   enter-last = omega (arith, enter .all, enter .counted)
@@ -133,10 +138,20 @@ module _ (ob s : List ℕ) (m : ℕ) (keys reaches frames marks ways : List ℕ)
         within = omega (arith, enter-last, root-range 2 ob s (p .0) (p .1) .1);
       }
 
+  pub enter-indexed : Indexed (word ob s m) (length reaches)
+  enter-indexed = rw same-reader (record { low = λ i h e. go i h e })
+    where
+      go : (i : ℕ) → i < length reaches → beside ob s i 0 ≡ 9 → beside ob s i 1 < 64
+      go zero h e = let one : beside ob s 0 0 ≡ 1 = header-kind ob s (both-read ob s (enter .read) .0) in absurd (omega arith)
+      go (suc i) h e =
+          let p = both-read ob s (enter .read) in
+          let last : suc i ≤ lastOf ob s = omega (arith, enter .far, enter .counted) in
+          bound-variable-first 2 (beside ob s) (suc i) (pair-sound 2 ob s (p .0) (p .1) (suc i) (omega arith) last) e
+
   pub enter-ready : (table reached : List ℕ) → length table ≡ length keys → length reached ≡ length reaches → Table (word ob s m) table → Reached (word ob s m) reached (length reached) →
       Ready (word ob s m) table reached marks
   enter-ready table reached l k n r = record {
-    tables = record { table = n; room = omega (arith, enter-small, enter .far); reached = r };
+    tables = record { table = n; room = omega (arith, enter .all, enter .far); reached = r };
     marks-long = omega (arith, enter-small, enter .wide);
   }
 
@@ -182,10 +197,10 @@ module _ (ob s : List ℕ) (a : Answer) (ea : a ≡ reading 2 ob s) where
     pub counts-few : (m n : ℕ) → m ≡ wordOf ob 0 1 → n ≡ wordOf s 0 1 → m + n + 1 ≤ 201024
     counts-few m n em en = omega (arith, obligation-few ob s check-read, derivation-few ob s check-read)
 
-    pub entering : (m n : ℕ) (keys reaches frames marks ways : List ℕ) → m ≡ wordOf ob 0 1 → n ≡ wordOf s 0 1 → length keys ≡ m + n + 1 → length reaches ≡ 201024 →
-        length frames ≡ 32776 → length marks ≡ 201024 → length ways ≡ 24582 → Entering ob s m keys reaches frames marks ways
-    entering m n keys reaches frames marks ways em en l f k w d =
-        record { read = check-read; counted = em; all = rw (← en) l; far = f; long = k; wide = w; deep = d }
+    pub entering : (m n size : ℕ) (keys slots reaches frames marks ways : List ℕ) → m ≡ wordOf ob 0 1 → n ≡ wordOf s 0 1 → size ≡ m + n + 1 → length keys ≡ size →
+        406144 ≤ length slots → length reaches ≡ size → length frames ≡ 32776 → 201024 ≤ length marks → length ways ≡ 24582 → Entering ob s m keys slots reaches frames marks ways
+    entering m n size keys slots reaches frames marks ways em en es l r f k w d =
+        record { read = check-read; counted = em; all = l ∙ es ∙ rw en refl; room = r; far = f ∙ es ∙ rw en refl; long = k; wide = w; deep = d }
 
 -- the part of the table that has keys
 pub part-length : (k : ℕ) → k ≤ 201024 → length {A = ℕ} (take k (replicate 201024 0)) ≡ k
@@ -193,9 +208,3 @@ part-length k h = length-take-le k (replicate 201024 0) (rw long h)
   where
     long : length {A = ℕ} (replicate 201024 0) ≡ 201024
     long = length-replicate {A = ℕ} 201024 0
-
--- the slots' length
-pub slots-long : (size : ℕ) → size ≤ 201024 → 4096 + 2 * size ≤ length {A = ℕ} (replicate 406144 0)
-slots-long size h =
-    let long : length {A = ℕ} (replicate 406144 0) ≡ 406144 = length-replicate {A = ℕ} 406144 0 in
-    rw long (omega arith)
