@@ -76,12 +76,6 @@ pub record Kept (d : ℕ) (before after : List ℕ) : Type 0 where
 pub kept-self : (d : ℕ) (frames : List ℕ) → Kept d frames frames
 kept-self d frames = record { same = λ i h. refl }
 
-pub kept-both : (d : ℕ) (a b c : List ℕ) → Kept d a b → Kept d b c → Kept d a c
-kept-both d a b c p q = record { same = λ i h. q .same i h ∙ p .same i h }
-
-pub kept-less : (d : ℕ) (a b : List ℕ) → Kept (d + 1) a b → Kept d a b
-kept-less d a b p = record { same = λ i h. p .same i (omega arith) }
-
 -- the frame of depth d has these words, all else stayed
 pub record Written (d start goal entry count : ℕ) (before after : List ℕ) : Type 0 where
   pub below : (i : ℕ) → i < 4 * d → getD after i 0 ≡ getD before i 0
