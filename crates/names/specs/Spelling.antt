@@ -86,7 +86,7 @@ module _ (rd : Reader) (s : Step) where
   unfolding spelled ifTrue
   spelled-more h = simp (spelled, ifTrue, h)
 
-spell-two : (b c : ℕ) (bs : List ℕ) →
+pub spell-two : (b c : ℕ) (bs : List ℕ) →
     characters (b ∷ c ∷ bs) ≡ elim (eqb b 195) [ true ↦ accented c ∷ characters bs | false ↦ single b ∷ characters (c ∷ bs) ]
 unfolding characters
 spell-two b c bs = refl
@@ -135,7 +135,7 @@ module _ (rd : Reader) (s u : Step) (h : s .more ≡ true) (eu : spelled rd u �
   pub spelled-falls : length (spelled rd u) < length (spelled rd s)
   spelled-falls = rw spelled-next (omega arith)
 
-is-spelled-cons : (c : ℕ) (cs : List ℕ) → isSpelled (c ∷ cs) ≡ elim (not (eqb c 0)) [ true ↦ isSpelled cs | false ↦ false ]
+pub is-spelled-cons : (c : ℕ) (cs : List ℕ) → isSpelled (c ∷ cs) ≡ elim (not (eqb c 0)) [ true ↦ isSpelled cs | false ↦ false ]
 unfolding isSpelled every
 is-spelled-cons c cs = refl
 
