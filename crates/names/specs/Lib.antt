@@ -4,3 +4,4 @@ pub mod NameKeys
 pub mod Room
 pub mod Spelling
 pub mod Symbols
+pub mod Taken

@@ -10,6 +10,7 @@ use borrow.Author.Tests.{ne-eqb, eqb-true, eqb-false, lt-ltb, leb-true}
 use Rattle.reader.specs.Words.{Reader}
 use Rattle.reader.specs.Tests.{both, every, ifEq}
 use Rattle.reader.specs.Chains.{linked}
+use Rattle.reader.specs.Laws.{linked-zero}
 use Rattle.reader.specs.Names.{nameOf, nameSpace, nameBytes, accented, single, characters, name, hasBytes, startsWell, isName}
 use Rattle.reader.specs.Records.{nameFits, nameStands}
 use Rattle.equality.specs.declared.Key.{Key}
@@ -163,3 +164,8 @@ named-key rd i p fits stands =
     let few = leb-true (length (linked rd (nameOf rd i))) 4 fits in
     deal-all 8 (spaceKey (nameSpace (rd i 0))) (name rd i) (record { atom = omega arith; first = omega arith; second = omega arith; third = omega arith }) spells
     (omega (arith, few, name-most rd i)) (omega (arith, some)) (named-space rd i p)
+
+-- a record that names none has no key
+pub unnamed-key : (rd : Reader) (i : ℕ) → nameOf rd i ≡ 0 → (nameKey rd i) .kind ≡ 0
+unfolding nameKey name nameBytes characters spread ifEq
+unnamed-key rd i e = rw (e, linked-zero rd)
