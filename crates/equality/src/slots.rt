@@ -11,7 +11,7 @@ ghost use Rattle.equality.specs.Keys.{keyFrom};
 ghost use Rattle.equality.specs.Slots.{under, Placed, Ended, Put};
 
 // The slot under record j on the side that a key says.
-fn slot_under(j: usize, k: Key) -> usize
+pub fn slot_under(j: usize, k: Key) -> usize
     requires { ⌜ 4097 + 2 * j < 18446744073709551616 ⌝ }
     ensures { λ r. ⌜ r ≡ under j k ⌝ }
 {

@@ -6,12 +6,16 @@ use mathlib.Core.Bool.{Bool, true, false, not, false≢true}
 use lib.Dec.{eqb, ltb, leb}
 use lib.ListN.{length}
 use native.Mathlib.Omega.{arith}
-use borrow.Author.Tests.{eq-eqb, ne-eqb, eqb-true, eqb-false, lt-ltb, ltb-true, leb-true}
+use borrow.Author.Tests.{eq-eqb, ne-eqb, eqb-true, eqb-false, lt-ltb, ltb-true, leb-true, not-true, not-false}
 use Rattle.reader.specs.Words.{Reader}
 use Rattle.reader.specs.Tests.{both, either, between, every, ifEq, ifLt}
-use Rattle.reader.specs.Names.{nameSpace, isLetter, isDigitOrUnderscore, single, accented, characters, name}
+use Rattle.reader.specs.Names.{nameOf, nameSpace, isLetter, isDigitOrUnderscore, single, accented, characters, name}
 use Rattle.equality.specs.declared.Key.{Key}
 use Rattle.equality.specs.Keys.{key}
+use Rattle.names.specs.declared.Step.{Step}
+use Rattle.names.specs.Cursor.{restBytes, spelled}
+use Rattle.names.specs.Spelling.{spelled-none, spelled-more, spelled-next}
+use Rattle.names.specs.Symbols.{name-from}
 
 -- no key: of a record that is no symbol, and of a name with no characters, with one that is none, or with more than the numbers hold
 abbrev pub noKey : Key
@@ -79,10 +83,21 @@ small-rest c cs h = go (isSmall c) refl
     go true e = simp e at (rw small-cons at h)
     go false e = absurd (false≢true (simp e at (rw small-cons at h)))
 
--- what room says
+-- The ways out of `has_room`, and what room says.
+pub room-none : (k : Key) (c : ℕ) → c ≡ 0 → false ≡ hasRoom k c
+unfolding hasRoom both
+room-none k c z = simp (hasRoom, both, eq-eqb c 0 z)
+
+pub room-is : (k : Key) (c : ℕ) → (c ≡ 0 → ⊥) → ltb (k .atom) 72057594037927936 ≡ hasRoom k c
+unfolding hasRoom both
+room-is k c p = simp (hasRoom, both, ne-eqb c 0 p)
+
 room-some : (k : Key) (c : ℕ) → hasRoom k c ≡ true → c ≡ 0 → ⊥
 unfolding hasRoom both
 room-some k c h z = false≢true (simp (hasRoom, both, eq-eqb c 0 z) at h)
+
+pub room-below : (k : Key) (c : ℕ) → hasRoom k c ≡ true → k .atom < 72057594037927936
+room-below k c h = ltb-true (k .atom) 72057594037927936 (room-is k c (λ z. room-some k c h z) ∙ h)
 
 -- The characters of a key, before `cs`: at most n are taken out of it.
 undealt : ℕ → Key → List ℕ → List ℕ
@@ -228,3 +243,33 @@ key-name rd i j p e = spread-names _ _ (name rd i) (name rd j) (name-small rd i)
 pub name-key : (rd : Reader) (i j : ℕ) → nameSpace (rd i 0) ≡ nameSpace (rd j 0) → name rd i ≡ name rd j → nameKey rd i ≡ nameKey rd j
 unfolding nameKey
 name-key rd i j e q = rw (e, q)
+
+-- The ways out of `key_of`: `s` was read, `k` is the key so far, and `small` says that its character can be dealt.
+module _ (rd : Reader) (i : ℕ) where
+  pub key-start : (w space first : ℕ) (k : Key) (s : Step) → w ≡ rd i 0 → space ≡ nameSpace w → k ≡ spaceKey space → first ≡ nameOf rd i →
+      spelled rd s ≡ characters (restBytes rd first 0) → nameKey rd i ≡ spread k (spelled rd s)
+  unfolding nameKey
+  key-start w space first k s ew es ek ef e = rw (ek, es, ew, e, name-from rd i first ef)
+
+  pub step-small : (r t : ℕ) (s : Step) → spelled rd s ≡ characters (restBytes rd r t) → every isSmall (spelled rd s) ≡ true
+  step-small r t s e = rw e (characters-small _)
+
+  module _ (k : Key) (s : Step) (inv : nameKey rd i ≡ spread k (spelled rd s)) where
+    module _ (more : s .more ≡ true) where
+      pub value-small : every isSmall (spelled rd s) ≡ true → s .value < 256
+      value-small h = small-first (s .value) _ (rw (spelled-more rd s more) at h)
+
+      module _ (room : Bool) (er : room ≡ hasRoom k (s .value)) where
+        pub key-stop : not room ≡ true → (r : Key) → r ≡ spaceKey 0 → r ≡ nameKey rd i
+        key-stop h r e = e ∙ spread-stop k (s .value) _ (sym er ∙ not-true room h) ∙ sym (inv ∙ ap (spread k) (spelled-more rd s more))
+
+        pub key-go : not room ≡ false → (l : Key) → l ≡ dealt k (s .value) → (u : Step) → spelled rd u ≡ characters (restBytes rd (s .at) (s .offset)) →
+            nameKey rd i ≡ spread l (spelled rd u)
+        key-go h l el u eu = inv ∙ rw (spelled-next rd s u more eu, el) (spread-go k (s .value) (spelled rd u) (sym er ∙ not-false room h))
+
+    module _ (end : s .more ≡ false) where
+      pub key-none : k .third ≡ 0 → (r : Key) → r ≡ spaceKey 0 → r ≡ nameKey rd i
+      key-none h r e = e ∙ spread-none k h ∙ sym (inv ∙ ap (spread k) (spelled-none rd s end))
+
+      pub key-all : (k .third ≡ 0 → ⊥) → k ≡ nameKey rd i
+      key-all h = spread-all k h ∙ sym (inv ∙ ap (spread k) (spelled-none rd s end))
