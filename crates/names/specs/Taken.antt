@@ -4,6 +4,7 @@ use mathlib.Core.Path.{_≡_, refl, sym, ap, _∙_}
 use mathlib.Core.List.{List, [], _∷_}
 use mathlib.Core.Bool.{Bool, true, false, not, false≢true}
 use lib.Dec.{eqb, ltb}
+use lib.ListN.{length, getD, set}
 use native.Mathlib.Omega.{arith}
 use borrow.Author.Tests.{eq-eqb, ne-eqb, eqb-true, eqb-false, ltb-true, ltb-false}
 use Rattle.reader.specs.Words.{Reader}
@@ -12,7 +13,7 @@ use Rattle.reader.specs.Names.{nameOf, nameSpace, name, sameName, takenBelow, n
 use Rattle.reader.specs.Records.{nameFits, nameStands, nameIsFree}
 use Rattle.equality.specs.declared.Key.{Key}
 use Rattle.equality.specs.Tables.{Zeros}
-use Rattle.equality.specs.Slots.{In, Placed, Put, placed-none, placed-next}
+use Rattle.equality.specs.Slots.{In, Placed, Put, Ended, placed-none, placed-next, old-put, new-put}
 use Rattle.names.specs.NameKeys.{nameKey, key-space, key-name, name-key}
 use Rattle.names.specs.Room.{named-key, unnamed-key}
 
@@ -183,6 +184,21 @@ module _ (rd : Reader) (before after : List ℕ) (i r : ℕ) (p : 0 < i) (has : 
     free = λ h. free-is (i - 1) (omega arith) (nameTaken rd i) refl;
   }
 
+-- The ways out of `enter`: k is the key of record i, and the search for it has ended at slot r.
+module _ (rd : Reader) (slots : List ℕ) (k : Key) (i : ℕ) (p : 0 < i) (ek : k ≡ nameKey rd i) (names : Names rd slots i) where
+  pub enter-out : k .kind ≡ 0 → Looked rd i i slots
+  enter-out h = looked-out rd slots i (sym (ap (λ (x : Key). x .kind) ek) ∙ h) names
+
+  module _ (some : k .kind ≡ 0 → ⊥) (r : ℕ) (ended : Ended (nameKey rd) slots k i r) (j : ℕ) (ej : j ≡ getD slots r 0) where
+    has-key : 0 < (nameKey rd i) .kind
+    has-key = omega (arith, ap (λ (x : Key). x .kind) ek)
+
+    pub enter-old : (j ≡ 0 → ⊥) → Looked rd i j slots
+    enter-old n = looked-up rd slots slots i j p has-key names (old-put (nameKey rd) slots k i r p ek (names .placed) ended j ej n)
+
+    pub enter-new : j ≡ 0 → r < length slots → Looked rd i i (set slots r i)
+    enter-new z l = looked-up rd slots (set slots r i) i i p has-key names (new-put (nameKey rd) slots k i r p ek (names .placed) ended (sym ej ∙ z) l)
+
 -- what `name_is_free` says
 pub looked-free : (rd : Reader) (i r : ℕ) (after : List ℕ) → nameFits rd i ≡ true → nameStands rd i ≡ true → Looked rd i r after → eqb r i ≡ nameIsFree rd i
 unfolding nameIsFree
@@ -191,3 +207,6 @@ looked-free rd i r after fits stands looked = go (eqb (nameOf rd i) 0) refl
     go : (b : Bool) → eqb (nameOf rd i) 0 ≡ b → eqb r i ≡ elim b as (λ x. Bool) [ true ↦ true | false ↦ not (nameTaken rd i) ]
     go true t = eq-eqb r i (looked .out (unnamed-key rd i (eqb-true (nameOf rd i) 0 t)))
     go false t = looked .free (named-key rd i (eqb-false (nameOf rd i) 0 t) fits stands)
+
+pub names-end : (rd : Reader) (slots : List ℕ) (i last : ℕ) → i ≤ last + 1 → last < i → Names rd slots i → Names rd slots (last + 1)
+names-end rd slots i last h g names = let e : last + 1 ≡ i = omega arith in rw e names
