@@ -104,8 +104,12 @@ deal-all (suc n) k (c ∷ d ∷ e ∷ f ∷ cs) room h few some p =
       second = omega (arith, room .second, pe .small);
       third = omega (arith, room .third, pf .small);
     } in
-    rw (deal k c (d ∷ e ∷ f ∷ cs) (omega (arith, room .atom)) h, deal (dealt k c) d (e ∷ f ∷ cs) (omega (arith, room .first)) hd,
-    deal (dealt (dealt k c) d) e (f ∷ cs) (omega (arith, room .second)) he, deal (dealt (dealt (dealt k c) d) e) f cs (omega (arith, room .third)) hf)
+    rw (
+      deal k c (d ∷ e ∷ f ∷ cs) (omega (arith, room .atom)) h,
+      deal (dealt k c) d (e ∷ f ∷ cs) (omega (arith, room .first)) hd,
+      deal (dealt (dealt k c) d) e (f ∷ cs) (omega (arith, room .second)) he,
+      deal (dealt (dealt (dealt k c) d) e) f cs (omega (arith, room .third)) hf,
+    )
     (deal-all n four cs below (other-characters f cs hf) (omega arith) (omega (arith, pf .some)) p)
 
 characters-most : (bs : List ℕ) → length (characters bs) ≤ length bs

@@ -30,7 +30,13 @@ pub struct Step {
 pub fn name_fits(obligation: &[u8], second: &[u8], m: usize, i: usize) -> bool
     ensures { λ r. ⌜ r ≡ nameFits (word (now (obligation .entry)) (now (second .entry)) m) i ⌝ }
 {
-    chains::at_most(obligation, second, m, symbols::name_of(obligation, second, m, i), 4)
+    chains::at_most(
+        obligation,
+        second,
+        m,
+        symbols::name_of(obligation, second, m, i),
+        4,
+    )
 }
 
 // Is name record i not empty?
