@@ -7,10 +7,14 @@ use reader::kinds;
 use reader::words;
 use records::faults;
 ghost use mathlib.Core.Path.{_≡_};
-ghost use Prim.Native.Nat.{_+_, _<_, _≤_};
+ghost use Prim.Native.Nat.{_+_, _-_, _*_, _<_, _≤_};
 ghost use lib.ListN.{length};
+ghost use Rattle.reader.specs.Answers.{firstFault};
+ghost use Rattle.reader.specs.Records.{recordFault};
 ghost use Rattle.reader.specs.Places.{countOf, rootOf, obligationReading, secondReading, reading};
 ghost use Rattle.equality.specs.Least.{Numbered};
+ghost use Rattle.equality.specs.Tables.{Zeros};
+ghost use Rattle.records.specs.Weights.{fileOf};
 ghost use Rattle.naming.specs.Totals.{Cleared};
 ghost use Rattle.reading.specs.Places.{recordsAndRoots, rootAndNaming, secondBody, Blank, Roomy};
 ghost use Rattle.reader.specs.Words.{word};
@@ -46,12 +50,13 @@ fn obligation_body(
     m: usize,
     numbers: &[usize],
     seen: &mut [usize],
+    slots: &mut [usize],
     table: &mut [u16],
 ) -> Answer
-    requires { ⌜ (m < length (now table)) × Blank (now table) × Numbered (word (now obligation) (now none) m) (now numbers) (length (now numbers)) ⌝ }
+    requires { ⌜ (m < length (now table)) × (4096 + 2 * m ≤ length (now slots)) × Blank (now table) × Zeros (now slots) × Numbered (word (now obligation) (now none) m) (now numbers) (length (now numbers)) ⌝ }
     ensures { λ r. ⌜ r ≡ recordsAndRoots (word (now (obligation .entry)) (now (none .entry)) m) m ⌝ }
 {
-    let r = faults::first_fault(obligation, none, m, 0, numbers, seen, table, 1, m);
+    let r = faults::first_fault(obligation, none, m, 0, numbers, seen, slots, table, 1, m);
     if r.refusal != 0 {
         return r;
     }
@@ -75,6 +80,7 @@ pub fn obligation_reading(obligation: &[u8]) -> Answer
     let mut numbers = [0usize; 1024];
     let mut scratch = [0usize; 6144];
     number_all(obligation, &obligation[0..0], m, &mut numbers, &mut scratch);
+    let mut slots = [0usize; 6144];
     let mut table = [0u16; 1024];
     obligation_body(
         obligation,
@@ -82,6 +88,7 @@ pub fn obligation_reading(obligation: &[u8]) -> Answer
         m,
         &numbers,
         &mut scratch,
+        &mut slots,
         &mut table,
     )
 }
@@ -106,7 +113,38 @@ fn root_and_naming(
     naming::first_unnamed(obligation, second, m, mode, named, passed, last)
 }
 
-// The records of a second file of kind `mode`, up to `last`, its root and its naming. The tables are scratch.
+// The first refusal of the records of a second file of kind `mode`, up to `last`. The tables are scratch.
+fn second_records(
+    obligation: &[u8],
+    second: &[u8],
+    m: usize,
+    mode: u8,
+    numbers: &[usize],
+    seen: &mut [usize],
+    slots: &mut [usize],
+    table: &mut [u16],
+    last: usize,
+) -> Answer
+    requires { ⌜ (m ≤ last) × (last < length (now table)) × (4096 + 2 * last ≤ length (now slots)) × Zeros (now slots) × Blank (now table) × Numbered (word (now obligation) (now second) m) (now numbers) (length (now numbers)) ⌝ }
+    ensures { λ r. ⌜ r ≡ firstFault (recordFault mode (word (now (obligation .entry)) (now (second .entry)) m)) (fileOf mode) (last + 1 - (m + 1)) (m + 1) ⌝ }
+{
+    names::slots::enter_all(obligation, second, m, slots, m);
+    faults::weigh_all(obligation, second, m, table, m);
+    faults::first_fault(
+        obligation,
+        second,
+        m,
+        mode,
+        numbers,
+        seen,
+        slots,
+        table,
+        m + 1,
+        last,
+    )
+}
+
+// The records of a second file of kind `mode`, its root and its naming. The tables are scratch.
 fn second_body(
     obligation: &[u8],
     second: &[u8],
@@ -114,24 +152,24 @@ fn second_body(
     mode: u8,
     numbers: &[usize],
     seen: &mut [usize],
+    slots: &mut [usize],
     table: &mut [u16],
     named: &mut [u8],
     passed: &mut [u8],
 ) -> Answer
-    requires { ⌜ (0 < mode) × (m + countOf (now second) < length (now table)) × (m + countOf (now second) < length (now named)) × (m + countOf (now second) < length (now passed)) × Blank (now table) × Cleared (now named) × Cleared (now passed) × Numbered (word (now obligation) (now second) m) (now numbers) (length (now numbers)) ⌝ }
+    requires { ⌜ (0 < mode) × (4096 + 2 * (m + countOf (now second)) ≤ length (now slots)) × (m + countOf (now second) < length (now table)) × (m + countOf (now second) < length (now named)) × (m + countOf (now second) < length (now passed)) × Zeros (now slots) × Blank (now table) × Cleared (now named) × Cleared (now passed) × Numbered (word (now obligation) (now second) m) (now numbers) (length (now numbers)) ⌝ }
     ensures { λ r. ⌜ r ≡ secondBody mode (word (now (obligation .entry)) (now (second .entry)) m) m (countOf (now (second .entry))) (rootOf (now (second .entry))) ⌝ }
 {
     let last = m + words::word_of(second, 0, 1);
-    faults::weigh_all(obligation, second, m, table, m);
-    let r = faults::first_fault(
+    let r = second_records(
         obligation,
         second,
         m,
         mode,
         numbers,
         seen,
+        slots,
         table,
-        m + 1,
         last,
     );
     if r.refusal != 0 {
@@ -148,11 +186,12 @@ fn second_reading(
     mode: u8,
     numbers: &[usize],
     seen: &mut [usize],
+    slots: &mut [usize],
     table: &mut [u16],
     named: &mut [u8],
     passed: &mut [u8],
 ) -> Answer
-    requires { ⌜ (0 < mode) × (m ≡ countOf (now obligation)) × (m < 1024) × Roomy mode (now table) (now named) (now passed) × Blank (now table) × Cleared (now named) × Cleared (now passed) × Numbered (word (now obligation) (now second) m) (now numbers) (length (now numbers)) ⌝ }
+    requires { ⌜ (0 < mode) × (m ≡ countOf (now obligation)) × (m < 1024) × Roomy mode (now slots) (now table) (now named) (now passed) × Zeros (now slots) × Blank (now table) × Cleared (now named) × Cleared (now passed) × Numbered (word (now obligation) (now second) m) (now numbers) (length (now numbers)) ⌝ }
     ensures { λ r. ⌜ r ≡ secondReading mode (now (obligation .entry)) (now (second .entry)) ⌝ }
 {
     if !headers::length_fits(mode, second) {
@@ -168,6 +207,7 @@ fn second_reading(
         mode,
         numbers,
         seen,
+        slots,
         table,
         named,
         passed,
@@ -186,6 +226,7 @@ pub fn read_proof(obligation: &[u8], proof: &[u8]) -> Answer
     let mut numbers = [0usize; 4096];
     let mut scratch = [0usize; 12288];
     number_all(obligation, proof, m, &mut numbers, &mut scratch);
+    let mut slots = [0usize; 12288];
     let mut table = [0u16; 4096];
     let mut named = [0u8; 4096];
     let mut passed = [0u8; 4096];
@@ -196,6 +237,7 @@ pub fn read_proof(obligation: &[u8], proof: &[u8]) -> Answer
         1,
         &numbers,
         &mut scratch,
+        &mut slots,
         &mut table,
         &mut named,
         &mut passed,
@@ -213,6 +255,7 @@ pub fn read_derivation(obligation: &[u8], derivation: &[u8]) -> Answer
     let m = words::word_of(obligation, 0, 1);
     let numbers = [0usize; 1];
     let mut scratch = [0usize; 1];
+    let mut slots = [0usize; 406144];
     let mut table = [0u16; 201024];
     let mut named = [0u8; 201024];
     let mut passed = [0u8; 201024];
@@ -223,6 +266,7 @@ pub fn read_derivation(obligation: &[u8], derivation: &[u8]) -> Answer
         2,
         &numbers,
         &mut scratch,
+        &mut slots,
         &mut table,
         &mut named,
         &mut passed,

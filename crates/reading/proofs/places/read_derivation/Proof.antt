@@ -4,7 +4,7 @@ use mathlib.Core.Path.{refl}
 use Rattle.equality.specs.Least.{numbered-one}
 use Rattle.reader.specs.AnswerLaws.{answers}
 use Rattle.reader.specs.Places.{reading}
-use Rattle.reading.specs.Places.{passed-small, zeros-cleared, zeros-blank, room-for-derivation}
+use Rattle.reading.specs.Places.{passed-small, zeros-zeros, zeros-cleared, zeros-blank, room-for-derivation}
 use Rattle.reading.proofs.places.read_derivation.Statement.{statement}
 use Rattle.reading.proofs.places.read_derivation.Tie as tie
 
@@ -21,13 +21,15 @@ read-derivation-spec = tie.close (tie.spec
     (λ c. search needs)
     -- slice-aggregate-second-reading-2: scratch; 1 numbers; 2 word-of; 3 if1; 4 struct-known; 5 obligation-reading; 8 args
     (λ c. search needs)
-    -- slice-aggregate-second-reading-3: table; 1 scratch; 2 numbers; 3 word-of; 4 if1; 5 struct-known; 6 obligation-reading; 9 args
+    -- slice-aggregate-second-reading-3: slots; 1 scratch; 2 numbers; 3 word-of; 4 if1; 5 struct-known; 6 obligation-reading; 9 args
     (λ c. search needs)
-    -- slice-aggregate-second-reading-4: named; 1 table; 2 scratch; 3 numbers; 4 word-of; 5 if1; 6 struct-known; 7 obligation-reading; 10 args
+    -- slice-aggregate-second-reading-4: table; 1 slots; 2 scratch; 3 numbers; 4 word-of; 5 if1; 6 struct-known; 7 obligation-reading; 10 args
     (λ c. search needs)
-    -- slice-aggregate-second-reading-5: passed; 1 named; 2 table; 3 scratch; 4 numbers; 5 word-of; 6 if1; 7 struct-known; 8 obligation-reading; 11 args
+    -- slice-aggregate-second-reading-5: named; 1 table; 2 slots; 3 scratch; 4 numbers; 5 word-of; 6 if1; 7 struct-known; 8 obligation-reading; 11 args
     (λ c. search needs)
-    -- second-reading-requires: passed; 1 named; 2 table; 3 scratch; 4 numbers; 5 word-of; 6 if1; 7 struct-known; 8 obligation-reading; 11 args
-    (λ c κs. (omega arith, c .before .before .before .before .before .word-of .ensures, passed-small _ _ _ (c .before .before .before .before .before .before .before .before .obligation-reading .ensures) (c .before .before .before .before .before .before .if1 .left) (c .before .before .before .before .before .word-of .ensures), room-for-derivation, zeros-blank 201024, zeros-cleared 201024, zeros-cleared 201024, numbered-one _ _ refl))
-    -- returns-2: passed2; 1 named2; 2 table2; 3 scratch2; 4 second-reading; 5 passed; 6 named; 7 table; 8 scratch; 9 numbers; 10 word-of; 11 if1; 12 struct-known; 13 obligation-reading; 16 args
+    -- slice-aggregate-second-reading-6: passed; 1 named; 2 table; 3 slots; 4 scratch; 5 numbers; 6 word-of; 7 if1; 8 struct-known; 9 obligation-reading; 12 args
+    (λ c. search needs)
+    -- second-reading-requires: passed; 1 named; 2 table; 3 slots; 4 scratch; 5 numbers; 6 word-of; 7 if1; 8 struct-known; 9 obligation-reading; 12 args
+    (λ c κs. (omega arith, c .before .before .before .before .before .before .word-of .ensures, passed-small _ _ _ (c .before .before .before .before .before .before .before .before .before .obligation-reading .ensures) (c .before .before .before .before .before .before .before .if1 .left) (c .before .before .before .before .before .before .word-of .ensures), room-for-derivation, zeros-zeros 406144, zeros-blank 201024, zeros-cleared 201024, zeros-cleared 201024, numbered-one _ _ refl))
+    -- returns-2: passed2; 1 named2; 2 table2; 3 slots2; 4 scratch2; 5 second-reading; 6 passed; 7 named; 8 table; 9 slots; 10 scratch; 11 numbers; 12 word-of; 13 if1; 14 struct-known; 15 obligation-reading; 18 args
     (λ c. search answers))
