@@ -30,7 +30,7 @@ pub fn record_in(slots: &[u32], k: usize) -> usize
 }
 
 // The slot under record j on the side that a key says.
-fn slot_under(j: usize, k: Key) -> usize
+pub fn slot_under(j: usize, k: Key) -> usize
     requires { ⌜ 4097 + 2 * j < 18446744073709551616 ⌝ }
     ensures { λ r. ⌜ r ≡ under j k ⌝ }
 {

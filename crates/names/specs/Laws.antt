@@ -1,10 +1,10 @@
 -- Laws of the cursor.
-use Prim.Native.Nat.{ℕ, zero, suc, _+_, _-_, _<_, _≤_}
+use Prim.Native.Nat.{ℕ, zero, suc, _+_, _*_, _-_, _<_, _≤_}
 use mathlib.Core.Path.{_≡_, refl, sym, _∙_}
 use mathlib.Core.List.{List, [], _∷_}
 use mathlib.Core.Bool.{Bool, true, false, false≢true}
 use lib.Dec.{eqb, eqb·suc-zero}
-use lib.ListN.{getD, drop-of-length-le, List·getD-eq-default}
+use lib.ListN.{length, getD, length-append, drop-of-length-le, List·getD-eq-default}
 use lib.Seq.{drop-cons}
 use native.Mathlib.Numerals.{add-one}
 use native.Mathlib.Omega.{arith}
@@ -60,6 +60,23 @@ trimmed-more b bs e = trimmed-cons b bs ∙ go (trimmed bs) (eqb b 0) refl (λ p
     go [] true q f h = absurd (false≢true (sym (simp (q, f refl) at h)))
     go [] false q f h = simp (cut, q)
     go (c ∷ cs) z q f h = refl
+
+trimmed-most : (bs : List ℕ) → length (trimmed bs) ≤ length bs
+unfolding trimmed cut
+trimmed-most [] = omega arith
+trimmed-most (b ∷ bs) = rw trimmed-cons (go (trimmed bs) (eqb b 0) refl (trimmed-most bs))
+  where
+    go : (ts : List ℕ) (z : Bool) → eqb b 0 ≡ z → length ts ≤ length bs → length (cut b ts) ≤ suc (length bs)
+    go [] true q h = simp (cut, q) (omega arith)
+    go [] false q h = simp (cut, q) (omega arith)
+    go (c ∷ cs) z q h = omega arith
+
+-- a name record has 8 bytes
+pub bytes-most : (rd : Reader) (is : List ℕ) → length (nameBytes rd is) ≤ 8 * length is
+unfolding nameBytes recordBytes bytesOf
+bytes-most rd [] = omega arith
+bytes-most rd (i ∷ []) = omega (arith, trimmed-most (recordBytes rd i))
+bytes-most rd (i ∷ j ∷ is) = omega (arith, length-append (recordBytes rd i) (nameBytes rd (j ∷ is)), bytes-most rd (j ∷ is))
 
 -- the bytes of a record, one by one
 bytes-more : (rd : Reader) (r t : ℕ) → t < 8 → bytesFrom rd r t ≡ byteAt rd r t ∷ bytesFrom rd r (t + 1)

@@ -9,7 +9,7 @@ use native.Mathlib.Omega.{arith}
 use borrow.Author.Tests.{eq-eqb, ne-eqb, leb-true, not-true, not-false}
 use Rattle.reader.specs.Words.{Reader}
 use Rattle.reader.specs.Tests.{both, either, between, every, ifLt, ifTrue}
-use Rattle.reader.specs.Names.{isLetter, isDigitOrUnderscore, single, accented, characters, startsWell, sameName}
+use Rattle.reader.specs.Names.{isLetter, isDigitOrUnderscore, single, accented, characters, startsWell}
 use Rattle.names.specs.declared.Step.{Step}
 use Rattle.names.specs.Cursor.{restBytes, step, read, spelled, isSpelled}
 use Rattle.names.specs.Laws.{rest-none}
@@ -78,15 +78,15 @@ module _ (rd : Reader) (s : Step) where
   unfolding read ifTrue
   read-more h = simp (read, ifTrue, h)
 
-  spelled-none : s .more ≡ false → spelled rd s ≡ []
+  pub spelled-none : s .more ≡ false → spelled rd s ≡ []
   unfolding spelled ifTrue
   spelled-none h = simp (spelled, ifTrue, h)
 
-  spelled-more : s .more ≡ true → spelled rd s ≡ s .value ∷ characters (restBytes rd (s .at) (s .offset))
+  pub spelled-more : s .more ≡ true → spelled rd s ≡ s .value ∷ characters (restBytes rd (s .at) (s .offset))
   unfolding spelled ifTrue
   spelled-more h = simp (spelled, ifTrue, h)
 
-spell-two : (b c : ℕ) (bs : List ℕ) →
+pub spell-two : (b c : ℕ) (bs : List ℕ) →
     characters (b ∷ c ∷ bs) ≡ elim (eqb b 195) [ true ↦ accented c ∷ characters bs | false ↦ single b ∷ characters (c ∷ bs) ]
 unfolding characters
 spell-two b c bs = refl
@@ -129,13 +129,13 @@ module _ (rd : Reader) (r t : ℕ) (s : Step) (es : read rd s ≡ restBytes rd r
 
 -- One turn of a loop over characters: s was read, and u after it.
 module _ (rd : Reader) (s u : Step) (h : s .more ≡ true) (eu : spelled rd u ≡ characters (restBytes rd (s .at) (s .offset))) where
-  spelled-next : spelled rd s ≡ s .value ∷ spelled rd u
+  pub spelled-next : spelled rd s ≡ s .value ∷ spelled rd u
   spelled-next = spelled-more rd s h ∙ rw eu
 
   pub spelled-falls : length (spelled rd u) < length (spelled rd s)
   spelled-falls = rw spelled-next (omega arith)
 
-is-spelled-cons : (c : ℕ) (cs : List ℕ) → isSpelled (c ∷ cs) ≡ elim (not (eqb c 0)) [ true ↦ isSpelled cs | false ↦ false ]
+pub is-spelled-cons : (c : ℕ) (cs : List ℕ) → isSpelled (c ∷ cs) ≡ elim (not (eqb c 0)) [ true ↦ isSpelled cs | false ↦ false ]
 unfolding isSpelled every
 is-spelled-cons c cs = refl
 
@@ -162,36 +162,3 @@ module _ (rd : Reader) (cs : List ℕ) (s : Step) where
   pub starts-some : spelled rd s ≡ cs → not (s .more) ≡ false → (x : Bool) → x ≡ isDigitOrUnderscore (s .value) → not x ≡ startsWell cs
   unfolding startsWell
   starts-some e h x ex = rw (← e, spelled-more rd s (not-false _ h), ← ex)
-
-same-cons : (c d : ℕ) (cs ds : List ℕ) → sameName (c ∷ cs) (d ∷ ds) ≡ elim (eqb c d) [ true ↦ sameName cs ds | false ↦ false ]
-unfolding sameName
-same-cons c d cs ds = refl
-
--- The ways out of `same_characters`.
-module _ (rd : Reader) (cs ds : List ℕ) (a b : Step) where
-  pub same-start : spelled rd a ≡ cs → spelled rd b ≡ ds → sameName cs ds ≡ sameName (spelled rd a) (spelled rd b)
-  same-start ea eb = rw (ea, eb)
-
-  module _ (inv : sameName cs ds ≡ sameName (spelled rd a) (spelled rd b)) where
-    pub same-end : a .more ≡ false → not (b .more) ≡ sameName cs ds
-    unfolding sameName
-    same-end h = go (b .more) refl
-      where
-        go : (x : Bool) → b .more ≡ x → not x ≡ sameName cs ds
-        go true e = rw (inv, spelled-none rd a h, spelled-more rd b e)
-        go false e = rw (inv, spelled-none rd a h, spelled-none rd b e)
-
-    module _ (h : a .more ≡ true) where
-      pub same-short : not (b .more) ≡ true → false ≡ sameName cs ds
-      unfolding sameName
-      same-short k = rw (inv, spelled-more rd a h, spelled-none rd b (not-true _ k))
-
-      module _ (k : not (b .more) ≡ false) where
-        pub same-differ : (a .value ≡ b .value → ⊥) → false ≡ sameName cs ds
-        same-differ n = rw (inv, spelled-more rd a h, spelled-more rd b (not-false _ k), same-cons) (simp (ne-eqb _ _ n))
-
-        pub same-go : a .value ≡ b .value → (x y : Step) →
-            spelled rd x ≡ characters (restBytes rd (a .at) (a .offset)) → spelled rd y ≡ characters (restBytes rd (b .at) (b .offset)) →
-            sameName cs ds ≡ sameName (spelled rd x) (spelled rd y)
-        same-go e x y ex ey =
-            inv ∙ rw (spelled-next rd a x h ex, spelled-next rd b y (not-false _ k) ey, same-cons) (simp (eq-eqb _ _ e))

@@ -21,10 +21,6 @@ use Rattle.names.specs.Laws.{rest-start}
 unfoldable pub allHaveBytes : Reader → ℕ → Bool
 allHaveBytes rd c = every (hasBytes rd) (linked rd c)
 
--- record n is a symbol of name space `space` with the characters `cs`
-unfoldable pub takes : Reader → ℕ → List ℕ → ℕ → Bool
-takes rd space cs n = both (eqb (nameSpace (rd n 0)) space) (sameName (name rd n) cs)
-
 pub fits-is : (rd : Reader) (i c : ℕ) (r : Bool) → c ≡ nameOf rd i → r ≡ leb (length (linked rd c)) 4 → r ≡ nameFits rd i
 unfolding nameFits
 fits-is rd i c r e q = rw (← e) q
@@ -59,7 +55,7 @@ module _ (rd : Reader) (first c : ℕ) (inv : allHaveBytes rd first ≡ allHaveB
     all-go h d e = inv ∙ rw (linked-step rd c (omega arith), every-cons, e) (simp (← ex, not-false x h))
 
 -- the characters of a name, from its first record
-name-from : (rd : Reader) (i c : ℕ) → c ≡ nameOf rd i → name rd i ≡ characters (restBytes rd c 0)
+pub name-from : (rd : Reader) (i c : ℕ) → c ≡ nameOf rd i → name rd i ≡ characters (restBytes rd c 0)
 unfolding name
 name-from rd i c e = rw (← e, rest-start rd c)
 
@@ -73,60 +69,3 @@ module _ (rd : Reader) (i c : ℕ) (e : c ≡ nameOf rd i) where
       r ≡ both (allHaveBytes rd c) (both (isSpelled (characters (restBytes rd c 0))) (startsWell (characters (restBytes rd c 0)))) → r ≡ nameStands rd i
   unfolding nameStands isName allHaveBytes isSpelled
   stands-some r p q = simp (nameStands, isName, name-from rd i c e, ← e, ne-eqb c 0 p) q
-
-  pub free-none : c ≡ 0 → true ≡ nameIsFree rd i
-  unfolding nameIsFree
-  free-none z = simp (nameIsFree, ← e, eq-eqb c 0 z)
-
-  pub free-some : (x : Bool) → (c ≡ 0 → ⊥) → x ≡ nameTaken rd i → not x ≡ nameIsFree rd i
-  unfolding nameIsFree
-  free-some x p q = simp (nameIsFree, ← e, ne-eqb c 0 p, ← q)
-
--- The ways out of `takes_name`.
-module _ (rd : Reader) (space c n k s : ℕ) (ek : k ≡ rd n 0) (es : s ≡ nameSpace k) where
-  pub takes-other : (s ≡ space → ⊥) → false ≡ takes rd space (characters (restBytes rd c 0)) n
-  unfolding takes both
-  takes-other p = simp (takes, both, ← ek, ← es, ne-eqb s space p)
-
-  pub takes-same : s ≡ space → (d : ℕ) (r : Bool) → d ≡ nameOf rd n → r ≡ sameName (characters (restBytes rd d 0)) (characters (restBytes rd c 0)) →
-      r ≡ takes rd space (characters (restBytes rd c 0)) n
-  unfolding takes both
-  takes-same p d r e q = simp (takes, both, ← ek, ← es, eq-eqb s space p, name-from rd n d e) q
-
--- record n has the name, and where it has not, the records below it are left
-module _ (rd : Reader) (space : ℕ) (cs : List ℕ) where
-  taken-one : (n : ℕ) → takenBelow rd space cs (suc n) ≡ elim (takes rd space cs (suc n)) [ true ↦ true | false ↦ takenBelow rd space cs n ]
-  unfolding takenBelow takes
-  taken-one n = refl
-
-  taken-here : (n : ℕ) (x : Bool) → (n ≡ 0 → ⊥) → x ≡ takes rd space cs n → x ≡ true → true ≡ takenBelow rd space cs n
-  taken-here zero x p e h = absurd (p refl)
-  taken-here (suc n) x p e h = rw taken-one (simp (← e, h))
-
-  taken-below : (n : ℕ) (x : Bool) → (n ≡ 0 → ⊥) → x ≡ takes rd space cs n → x ≡ false → takenBelow rd space cs n ≡ takenBelow rd space cs (n - 1)
-  taken-below zero x p e h = absurd (p refl)
-  taken-below (suc n) x p e h = let one : suc n - 1 ≡ n = omega arith in rw (one, taken-one) (simp (← e, h))
-
--- The ways out of `name_taken`.
-pub taken-start : (rd : Reader) (i k s c : ℕ) → (i ≡ 0 → ⊥) → k ≡ rd i 0 → s ≡ nameSpace k → c ≡ nameOf rd i →
-    nameTaken rd i ≡ takenBelow rd s (characters (restBytes rd c 0)) (i - 1)
-unfolding nameTaken
-taken-start rd zero k s c p ek es e = absurd (p refl)
-taken-start rd (suc n) k s c p ek es e = let one : suc n - 1 ≡ n = omega arith in rw (one, es, ek, name-from rd (suc n) c e)
-
-module _ (rd : Reader) (i : ℕ) where
-  pub taken-none : i ≡ 0 → false ≡ nameTaken rd i
-  unfolding nameTaken
-  taken-none z = rw z
-
-  module _ (s c n : ℕ) (inv : nameTaken rd i ≡ takenBelow rd s (characters (restBytes rd c 0)) n) where
-    pub taken-end : n ≡ 0 → false ≡ nameTaken rd i
-    unfolding takenBelow
-    taken-end z = rw (inv, z)
-
-    module _ (p : n ≡ 0 → ⊥) (x : Bool) (ex : x ≡ takes rd s (characters (restBytes rd c 0)) n) where
-      pub taken-stop : x ≡ true → true ≡ nameTaken rd i
-      taken-stop h = rw inv (taken-here rd s _ n x p ex h)
-
-      pub taken-go : x ≡ false → nameTaken rd i ≡ takenBelow rd s (characters (restBytes rd c 0)) (n - 1)
-      taken-go h = inv ∙ taken-below rd s _ n x p ex h

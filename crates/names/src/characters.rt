@@ -4,7 +4,7 @@ use crate::bytes;
 use reader::tests::is_between;
 ghost use mathlib.Core.Path.{_≡_};
 ghost use Rattle.reader.specs.Words.{word};
-ghost use Rattle.reader.specs.Names.{isLetter, isDigitOrUnderscore, single, accented, characters, startsWell, sameName};
+ghost use Rattle.reader.specs.Names.{isLetter, isDigitOrUnderscore, single, accented, characters, startsWell};
 ghost use Rattle.names.specs.Cursor.{restBytes, spelled, isSpelled};
 
 fn is_letter(b: usize) -> bool
@@ -110,23 +110,4 @@ pub fn starts_well(obligation: &[u8], second: &[u8], m: usize, first: usize) -> 
         return false;
     }
     !is_digit_or_underscore(s.value)
-}
-
-// Have the names whose first records are c and d the same characters?
-pub fn same_characters(obligation: &[u8], second: &[u8], m: usize, c: usize, d: usize) -> bool
-    ensures { λ r. ⌜ r ≡ sameName (characters (restBytes (word (now (obligation .entry)) (now (second .entry)) m) c 0)) (characters (restBytes (word (now (obligation .entry)) (now (second .entry)) m) d 0)) ⌝ }
-{
-    let mut a = next_character(obligation, second, m, c, 0);
-    let mut b = next_character(obligation, second, m, d, 0);
-    while a.more {
-        if !b.more {
-            return false;
-        }
-        if a.value != b.value {
-            return false;
-        }
-        a = next_character(obligation, second, m, a.at, a.offset);
-        b = next_character(obligation, second, m, b.at, b.offset);
-    }
-    !b.more
 }

@@ -1,16 +1,22 @@
 // Names of symbols: refusals 8 and 9, and the name's part of refusal 6.
 pub mod bytes;
 pub mod characters;
+pub mod keys;
+pub mod slots;
+pub mod symbols;
 
 use reader::chains;
 use reader::trees;
 use reader::words;
 ghost use mathlib.Core.Path.{_≡_};
+ghost use mathlib.Core.Bool.{true};
+ghost use Prim.Native.Nat.{_+_, _*_, _<_, _≤_};
+ghost use lib.ListN.{length};
 ghost use Rattle.reader.specs.Words.{word};
-ghost use Rattle.reader.specs.Names.{nameOf, nameSpace, characters, hasBytes, nameTaken};
+ghost use Rattle.reader.specs.Names.{hasBytes};
 ghost use Rattle.reader.specs.Records.{nameFits, nameStands, nameIsFree};
-ghost use Rattle.names.specs.Cursor.{restBytes};
-ghost use Rattle.names.specs.Symbols.{allHaveBytes, takes};
+ghost use Rattle.names.specs.Symbols.{allHaveBytes};
+ghost use Rattle.names.specs.Taken.{Room, Names};
 
 // What was read, where there was `more`: a byte or a character, and the cursor behind it, a record of the name and an offset in its bytes.
 pub struct Step {
@@ -20,44 +26,17 @@ pub struct Step {
     pub offset: usize,
 }
 
-// The name record that symbol i names; 0 for a record that is no symbol.
-pub fn name_of(obligation: &[u8], second: &[u8], m: usize, i: usize) -> usize
-    ensures { λ r. ⌜ r ≡ nameOf (word (now (obligation .entry)) (now (second .entry)) m) i ⌝ }
-{
-    let k = words::word_at(obligation, second, m, i, 0);
-    if k == 3 {
-        return words::word_at(obligation, second, m, i, 1);
-    }
-    if k == 7 {
-        return words::word_at(obligation, second, m, i, 2);
-    }
-    if k == 8 {
-        return words::word_at(obligation, second, m, i, 3);
-    }
-    0
-}
-
-// The name space of a kind, 0 for none.
-fn space_of(k: usize) -> usize
-    ensures { λ r. ⌜ r ≡ nameSpace k ⌝ }
-{
-    if k == 3 {
-        return 1;
-    }
-    if k == 7 {
-        return 2;
-    }
-    if k == 8 {
-        return 2;
-    }
-    0
-}
-
 // Has symbol i's name at most 4 records?
 pub fn name_fits(obligation: &[u8], second: &[u8], m: usize, i: usize) -> bool
     ensures { λ r. ⌜ r ≡ nameFits (word (now (obligation .entry)) (now (second .entry)) m) i ⌝ }
 {
-    chains::at_most(obligation, second, m, name_of(obligation, second, m, i), 4)
+    chains::at_most(
+        obligation,
+        second,
+        m,
+        symbols::name_of(obligation, second, m, i),
+        4,
+    )
 }
 
 // Is name record i not empty?
@@ -88,7 +67,7 @@ fn all_have_bytes(obligation: &[u8], second: &[u8], m: usize, first: usize) -> b
 pub fn name_stands(obligation: &[u8], second: &[u8], m: usize, i: usize) -> bool
     ensures { λ r. ⌜ r ≡ nameStands (word (now (obligation .entry)) (now (second .entry)) m) i ⌝ }
 {
-    let c = name_of(obligation, second, m, i);
+    let c = symbols::name_of(obligation, second, m, i);
     if c == 0 {
         return true;
     }
@@ -101,41 +80,10 @@ pub fn name_stands(obligation: &[u8], second: &[u8], m: usize, i: usize) -> bool
     characters::starts_well(obligation, second, m, c)
 }
 
-// Is record n a symbol of name space `space` with the characters of the name whose first record is c? The kind is looked at first.
-fn takes_name(obligation: &[u8], second: &[u8], m: usize, space: usize, c: usize, n: usize) -> bool
-    ensures { λ r. ⌜ r ≡ takes (word (now (obligation .entry)) (now (second .entry)) m) space (characters (restBytes (word (now (obligation .entry)) (now (second .entry)) m) c 0)) n ⌝ }
+// Has no symbol before i the name of symbol i, in its name space? True for a record that names none. The slots have the names below i, and then that of i.
+pub fn name_is_free(obligation: &[u8], second: &[u8], m: usize, slots: &mut [u32], i: usize) -> bool
+    requires { ⌜ (0 < i) × Room (now slots) i × Names (word (now obligation) (now second) m) (now slots) i × (nameFits (word (now obligation) (now second) m) i ≡ true) × (nameStands (word (now obligation) (now second) m) i ≡ true) ⌝ }
+    ensures { λ r. ⌜ (r ≡ nameIsFree (word (now (obligation .entry)) (now (second .entry)) m) i) × Names (word (now (obligation .entry)) (now (second .entry)) m) (now (slots .exit)) (i + 1) ⌝ }
 {
-    if space_of(words::word_at(obligation, second, m, n, 0)) != space {
-        return false;
-    }
-    characters::same_characters(obligation, second, m, name_of(obligation, second, m, n), c)
-}
-
-// Has a symbol before i the name of symbol i, in its name space?
-fn name_taken(obligation: &[u8], second: &[u8], m: usize, i: usize) -> bool
-    ensures { λ r. ⌜ r ≡ nameTaken (word (now (obligation .entry)) (now (second .entry)) m) i ⌝ }
-{
-    if i == 0 {
-        return false;
-    }
-    let space = space_of(words::word_at(obligation, second, m, i, 0));
-    let c = name_of(obligation, second, m, i);
-    let mut n = i - 1;
-    while n != 0 {
-        if takes_name(obligation, second, m, space, c, n) {
-            return true;
-        }
-        n -= 1;
-    }
-    false
-}
-
-// Has no symbol before i the name of symbol i, in its name space? True for a record that names none.
-pub fn name_is_free(obligation: &[u8], second: &[u8], m: usize, i: usize) -> bool
-    ensures { λ r. ⌜ r ≡ nameIsFree (word (now (obligation .entry)) (now (second .entry)) m) i ⌝ }
-{
-    if name_of(obligation, second, m, i) == 0 {
-        return true;
-    }
-    !name_taken(obligation, second, m, i)
+    slots::enter(obligation, second, m, slots, i) == i
 }

@@ -1,5 +1,5 @@
 -- The ways out of the code for the places, one after the other.
-use Prim.Native.Nat.{ℕ, zero, suc, _+_, _-_, _<_, _≤_}
+use Prim.Native.Nat.{ℕ, zero, suc, _+_, _*_, _-_, _<_, _≤_}
 use mathlib.Core.Path.{_≡_, refl, sym, ap, _∙_}
 use mathlib.Core.List.{List, [], _∷_}
 use mathlib.Core.Bool.{Bool, true, false, not}
@@ -13,9 +13,11 @@ use Rattle.reader.specs.Tests.{both, demand, ifEq}
 use Rattle.reader.specs.Kinds.{isRule}
 use Rattle.reader.specs.Answers.{answer, accepted, placed, orAnswer, firstFault}
 use Rattle.reader.specs.Records.{recordFault}
+use Rattle.names.specs.Taken.{Room}
 use Rattle.reader.specs.Places.{mostRecords, lengthFits, headerFits, countsFit, countOf, rootOf, goalFits, hypothesesFit, namingFault, obligationReading, secondReading, reading}
 use Rattle.reader.specs.AnswerLaws.{answer-stop, answer-go}
 use Rattle.records.specs.Weights.{Filled, filled-one, fileOf}
+use Rattle.equality.specs.Tables.{Zeros}
 use Rattle.naming.specs.Totals.{Cleared}
 use Rattle.reading.specs.Headers.{count-below, counts-in}
 use Rattle.reading.specs.Roots.{rootsFit}
@@ -132,10 +134,24 @@ module _ (mode : ℕ) (rd : Reader) (m n root w last : ℕ) (second : 0 < mode) 
       answer-go (firstFault (recordFault mode rd) 2 n (m + 1)) _ r q second-records h (rw same at e)
 
 -- tables that have room for every record of an obligation and a second file of kind `mode`
-pub record Roomy (mode : ℕ) (table named passed : List ℕ) : Type 0 where
+pub record Roomy (mode : ℕ) (slots table named passed : List ℕ) : Type 0 where
+  pub symbols : 4096 + 2 * (1023 + mostRecords mode) ≤ length slots
   pub weights : 1023 + mostRecords mode ≤ length table
   pub names : 1023 + mostRecords mode ≤ length named
   pub links : 1023 + mostRecords mode ≤ length passed
+
+-- so that there are slots for each of them
+most-few : (mode : ℕ) → mostRecords mode ≤ 200001
+unfolding mostRecords ifEq
+most-few mode = go (eqb mode 1) (eqb mode 2)
+  where
+    go : (a b : Bool) → elim a as (λ x. ℕ) [ true ↦ 3073 | false ↦ elim b [ true ↦ 200001 | false ↦ 1024 ] ] ≤ 200001
+    go true b = omega arith
+    go false true = omega arith
+    go false false = omega arith
+
+pub room-fits : (mode : ℕ) (slots table named passed : List ℕ) (n : ℕ) → Roomy mode slots table named passed → n < 1023 + mostRecords mode → Room slots n
+room-fits mode slots table named passed n roomy h = record { room = omega (arith, roomy .symbols); small = omega (arith, most-few mode) }
 
 -- The ways out of `second_reading`.
 module _ (mode : ℕ) (ob s : List ℕ) (t : Bool) (et : t ≡ lengthFits mode s) where
@@ -186,13 +202,19 @@ zeros-cleared n = record { zeros = λ r. go r (ltb r n) refl }
 pub zeros-blank : (n : ℕ) → Blank (zeros n)
 zeros-blank n = record { first = zeros-cleared n .zeros 0 }
 
-zeros-roomy : (mode n : ℕ) → 1023 + mostRecords mode ≤ n → Roomy mode (zeros n) (zeros n) (zeros n)
-zeros-roomy mode n h = let e : length (zeros n) ≡ n = length-replicate {A = ℕ} n 0 in record { weights = rw e h; names = rw e h; links = rw e h }
+pub zeros-zeros : (n : ℕ) → Zeros (zeros n)
+zeros-zeros n = record { zeros = zeros-cleared n .zeros }
 
-pub room-for-proof : Roomy 1 (zeros 4096) (zeros 4096) (zeros 4096)
-unfolding mostRecords ifEq
-room-for-proof = zeros-roomy 1 4096 (omega arith)
+zeros-roomy : (mode n k : ℕ) → 1023 + mostRecords mode ≤ n → 4096 + 2 * (1023 + mostRecords mode) ≤ k → Roomy mode (zeros k) (zeros n) (zeros n) (zeros n)
+zeros-roomy mode n k h g =
+    let e : length (zeros n) ≡ n = length-replicate {A = ℕ} n 0 in
+    let f : length (zeros k) ≡ k = length-replicate {A = ℕ} k 0 in
+    record { symbols = rw f g; weights = rw e h; names = rw e h; links = rw e h }
 
-pub room-for-derivation : Roomy 2 (zeros 201024) (zeros 201024) (zeros 201024)
+pub room-for-proof : Roomy 1 (zeros 12288) (zeros 4096) (zeros 4096) (zeros 4096)
 unfolding mostRecords ifEq
-room-for-derivation = zeros-roomy 2 201024 (omega arith)
+room-for-proof = zeros-roomy 1 4096 12288 (omega arith) (omega arith)
+
+pub room-for-derivation : Roomy 2 (zeros 406144) (zeros 201024) (zeros 201024) (zeros 201024)
+unfolding mostRecords ifEq
+room-for-derivation = zeros-roomy 2 201024 406144 (omega arith) (omega arith)

@@ -7,10 +7,15 @@ use reader::kinds;
 use reader::words;
 use records::faults;
 ghost use mathlib.Core.Path.{_≡_};
-ghost use Prim.Native.Nat.{_+_, _<_, _≤_};
+ghost use Prim.Native.Nat.{_+_, _-_, _*_, _<_, _≤_};
 ghost use lib.ListN.{length};
+ghost use Rattle.reader.specs.Answers.{firstFault};
+ghost use Rattle.reader.specs.Records.{recordFault};
+ghost use Rattle.names.specs.Taken.{Room};
 ghost use Rattle.reader.specs.Places.{countOf, rootOf, obligationReading, secondReading, reading};
 ghost use Rattle.equality.specs.Least.{Numbered};
+ghost use Rattle.equality.specs.Tables.{Zeros};
+ghost use Rattle.records.specs.Weights.{fileOf};
 ghost use Rattle.naming.specs.Totals.{Cleared};
 ghost use Rattle.reading.specs.Places.{recordsAndRoots, rootAndNaming, secondBody, Blank, Roomy};
 ghost use Rattle.reader.specs.Words.{word};
@@ -46,12 +51,13 @@ fn obligation_body(
     m: usize,
     numbers: &[usize],
     seen: &mut [usize],
+    slots: &mut [u32],
     table: &mut [u16],
 ) -> Answer
-    requires { ⌜ (m < length (now table)) × Blank (now table) × Numbered (word (now obligation) (now none) m) (now numbers) (length (now numbers)) ⌝ }
+    requires { ⌜ (m < length (now table)) × Room (now slots) m × Blank (now table) × Zeros (now slots) × Numbered (word (now obligation) (now none) m) (now numbers) (length (now numbers)) ⌝ }
     ensures { λ r. ⌜ r ≡ recordsAndRoots (word (now (obligation .entry)) (now (none .entry)) m) m ⌝ }
 {
-    let r = faults::first_fault(obligation, none, m, 0, numbers, seen, table, 1, m);
+    let r = faults::first_fault(obligation, none, m, 0, numbers, seen, slots, table, 1, m);
     if r.refusal != 0 {
         return r;
     }
@@ -73,9 +79,10 @@ pub fn obligation_reading(obligation: &[u8]) -> Answer
     }
     let m = words::word_of(obligation, 0, 1);
     let mut numbers = [0usize; 1024];
-    let mut slots = [0u32; 6144];
-    number_all(obligation, &obligation[0..0], m, &mut numbers, &mut slots);
+    let mut scratch = [0u32; 6144];
+    number_all(obligation, &obligation[0..0], m, &mut numbers, &mut scratch);
     let mut seen = [0usize; 1024];
+    let mut slots = [0u32; 6144];
     let mut table = [0u16; 1024];
     obligation_body(
         obligation,
@@ -83,6 +90,7 @@ pub fn obligation_reading(obligation: &[u8]) -> Answer
         m,
         &numbers,
         &mut seen,
+        &mut slots,
         &mut table,
     )
 }
@@ -107,7 +115,38 @@ fn root_and_naming(
     naming::first_unnamed(obligation, second, m, mode, named, passed, last)
 }
 
-// The records of a second file of kind `mode`, up to `last`, its root and its naming. The tables are scratch.
+// The first refusal of the records of a second file of kind `mode`, up to `last`. The tables are scratch.
+fn second_records(
+    obligation: &[u8],
+    second: &[u8],
+    m: usize,
+    mode: u8,
+    numbers: &[usize],
+    seen: &mut [usize],
+    slots: &mut [u32],
+    table: &mut [u16],
+    last: usize,
+) -> Answer
+    requires { ⌜ (m ≤ last) × (last < length (now table)) × Room (now slots) last × Zeros (now slots) × Blank (now table) × Numbered (word (now obligation) (now second) m) (now numbers) (length (now numbers)) ⌝ }
+    ensures { λ r. ⌜ r ≡ firstFault (recordFault mode (word (now (obligation .entry)) (now (second .entry)) m)) (fileOf mode) (last + 1 - (m + 1)) (m + 1) ⌝ }
+{
+    names::slots::enter_all(obligation, second, m, slots, m);
+    faults::weigh_all(obligation, second, m, table, m);
+    faults::first_fault(
+        obligation,
+        second,
+        m,
+        mode,
+        numbers,
+        seen,
+        slots,
+        table,
+        m + 1,
+        last,
+    )
+}
+
+// The records of a second file of kind `mode`, its root and its naming. The tables are scratch.
 fn second_body(
     obligation: &[u8],
     second: &[u8],
@@ -115,24 +154,24 @@ fn second_body(
     mode: u8,
     numbers: &[usize],
     seen: &mut [usize],
+    slots: &mut [u32],
     table: &mut [u16],
     named: &mut [u8],
     passed: &mut [u8],
 ) -> Answer
-    requires { ⌜ (0 < mode) × (m + countOf (now second) < length (now table)) × (m + countOf (now second) < length (now named)) × (m + countOf (now second) < length (now passed)) × Blank (now table) × Cleared (now named) × Cleared (now passed) × Numbered (word (now obligation) (now second) m) (now numbers) (length (now numbers)) ⌝ }
+    requires { ⌜ (0 < mode) × Room (now slots) (m + countOf (now second)) × (m + countOf (now second) < length (now table)) × (m + countOf (now second) < length (now named)) × (m + countOf (now second) < length (now passed)) × Zeros (now slots) × Blank (now table) × Cleared (now named) × Cleared (now passed) × Numbered (word (now obligation) (now second) m) (now numbers) (length (now numbers)) ⌝ }
     ensures { λ r. ⌜ r ≡ secondBody mode (word (now (obligation .entry)) (now (second .entry)) m) m (countOf (now (second .entry))) (rootOf (now (second .entry))) ⌝ }
 {
     let last = m + words::word_of(second, 0, 1);
-    faults::weigh_all(obligation, second, m, table, m);
-    let r = faults::first_fault(
+    let r = second_records(
         obligation,
         second,
         m,
         mode,
         numbers,
         seen,
+        slots,
         table,
-        m + 1,
         last,
     );
     if r.refusal != 0 {
@@ -149,11 +188,12 @@ fn second_reading(
     mode: u8,
     numbers: &[usize],
     seen: &mut [usize],
+    slots: &mut [u32],
     table: &mut [u16],
     named: &mut [u8],
     passed: &mut [u8],
 ) -> Answer
-    requires { ⌜ (0 < mode) × (m ≡ countOf (now obligation)) × (m < 1024) × Roomy mode (now table) (now named) (now passed) × Blank (now table) × Cleared (now named) × Cleared (now passed) × Numbered (word (now obligation) (now second) m) (now numbers) (length (now numbers)) ⌝ }
+    requires { ⌜ (0 < mode) × (m ≡ countOf (now obligation)) × (m < 1024) × Roomy mode (now slots) (now table) (now named) (now passed) × Zeros (now slots) × Blank (now table) × Cleared (now named) × Cleared (now passed) × Numbered (word (now obligation) (now second) m) (now numbers) (length (now numbers)) ⌝ }
     ensures { λ r. ⌜ r ≡ secondReading mode (now (obligation .entry)) (now (second .entry)) ⌝ }
 {
     if !headers::length_fits(mode, second) {
@@ -169,6 +209,7 @@ fn second_reading(
         mode,
         numbers,
         seen,
+        slots,
         table,
         named,
         passed,
@@ -185,9 +226,10 @@ pub fn read_proof(obligation: &[u8], proof: &[u8]) -> Answer
     }
     let m = words::word_of(obligation, 0, 1);
     let mut numbers = [0usize; 4096];
-    let mut slots = [0u32; 12288];
-    number_all(obligation, proof, m, &mut numbers, &mut slots);
+    let mut scratch = [0u32; 12288];
+    number_all(obligation, proof, m, &mut numbers, &mut scratch);
     let mut seen = [0usize; 4096];
+    let mut slots = [0u32; 12288];
     let mut table = [0u16; 4096];
     let mut named = [0u8; 4096];
     let mut passed = [0u8; 4096];
@@ -198,14 +240,23 @@ pub fn read_proof(obligation: &[u8], proof: &[u8]) -> Answer
         1,
         &numbers,
         &mut seen,
+        &mut slots,
         &mut table,
         &mut named,
         &mut passed,
     )
 }
 
-// Places 1 to 12 of an obligation and a derivation, whose records are not typed: no number is wanted.
-pub fn read_derivation(obligation: &[u8], derivation: &[u8]) -> Answer
+// Places 1 to 12 of an obligation and a derivation, whose records are not typed: no number is wanted. The tables are scratch.
+pub fn derivation_reading(
+    obligation: &[u8],
+    derivation: &[u8],
+    slots: &mut [u32],
+    weights: &mut [u16],
+    named: &mut [u8],
+    passed: &mut [u8],
+) -> Answer
+    requires { ⌜ Roomy 2 (now slots) (now weights) (now named) (now passed) × Zeros (now slots) × Blank (now weights) × Cleared (now named) × Cleared (now passed) ⌝ }
     ensures { λ r. ⌜ r ≡ reading 2 (now (obligation .entry)) (now (derivation .entry)) ⌝ }
 {
     let r = obligation_reading(obligation);
@@ -215,9 +266,6 @@ pub fn read_derivation(obligation: &[u8], derivation: &[u8]) -> Answer
     let m = words::word_of(obligation, 0, 1);
     let numbers = [0usize; 1];
     let mut seen = [0usize; 1];
-    let mut table = [0u16; 201024];
-    let mut named = [0u8; 201024];
-    let mut passed = [0u8; 201024];
     second_reading(
         obligation,
         derivation,
@@ -225,7 +273,26 @@ pub fn read_derivation(obligation: &[u8], derivation: &[u8]) -> Answer
         2,
         &numbers,
         &mut seen,
-        &mut table,
+        slots,
+        weights,
+        named,
+        passed,
+    )
+}
+
+// The same with tables of its own.
+pub fn read_derivation(obligation: &[u8], derivation: &[u8]) -> Answer
+    ensures { λ r. ⌜ r ≡ reading 2 (now (obligation .entry)) (now (derivation .entry)) ⌝ }
+{
+    let mut slots = [0u32; 406144];
+    let mut weights = [0u16; 201024];
+    let mut named = [0u8; 201024];
+    let mut passed = [0u8; 201024];
+    derivation_reading(
+        obligation,
+        derivation,
+        &mut slots,
+        &mut weights,
         &mut named,
         &mut passed,
     )

@@ -4,14 +4,16 @@ use crate::references;
 use crate::weights;
 use reader::Answer;
 ghost use mathlib.Core.Path.{_≡_};
-ghost use Prim.Native.Nat.{_+_, _-_, _<_};
+ghost use mathlib.Core.Bool.{true};
+ghost use Prim.Native.Nat.{_+_, _-_, _*_, _<_, _≤_};
 ghost use lib.ListN.{length};
 ghost use Rattle.reader.specs.Words.{word};
 ghost use Rattle.reader.specs.Trees.{tree};
 ghost use Rattle.reader.specs.Weight.{weight};
 ghost use Rattle.equality.specs.Least.{Numbered};
 ghost use Rattle.reader.specs.Answers.{firstFault};
-ghost use Rattle.reader.specs.Records.{chainsFit, typingFits, wordsFault, contentFault, recordFault};
+ghost use Rattle.reader.specs.Records.{nameFits, chainsFit, typingFits, wordsFault, contentFault, recordFault};
+ghost use Rattle.names.specs.Taken.{Room, Names};
 ghost use Rattle.records.specs.Weights.{capped, Filled, fileOf};
 
 // Have the chains of record i their lengths?
@@ -62,7 +64,7 @@ fn words_fault(obligation: &[u8], second: &[u8], m: usize, mode: u8, i: usize) -
     0
 }
 
-// Refusals 7 to 10 of record i, whose weight is w, 0 for none.
+// Refusals 7 to 10 of record i, whose weight is w, 0 for none. The slots have the names below i, and where none is refused, then that of i.
 fn content_fault(
     obligation: &[u8],
     second: &[u8],
@@ -70,11 +72,12 @@ fn content_fault(
     mode: u8,
     numbers: &[usize],
     seen: &mut [usize],
+    slots: &mut [u32],
     i: usize,
     w: usize,
 ) -> usize
-    requires { ⌜ (w ≡ capped (weight (tree (word (now obligation) (now second) m) i))) × Numbered (word (now obligation) (now second) m) (now numbers) (length (now numbers)) ⌝ }
-    ensures { λ r. ⌜ r ≡ contentFault mode (word (now (obligation .entry)) (now (second .entry)) m) i ⌝ }
+    requires { ⌜ (w ≡ capped (weight (tree (word (now obligation) (now second) m) i))) × Numbered (word (now obligation) (now second) m) (now numbers) (length (now numbers)) × (0 < i) × Room (now slots) i × Names (word (now obligation) (now second) m) (now slots) i × (nameFits (word (now obligation) (now second) m) i ≡ true) ⌝ }
+    ensures { λ r. ⌜ (r ≡ contentFault mode (word (now (obligation .entry)) (now (second .entry)) m) i) × (r ≡ 0 → Names (word (now (obligation .entry)) (now (second .entry)) m) (now (slots .exit)) (i + 1)) ⌝ }
 {
     if !weights::weight_fits(obligation, second, m, mode, i, w) {
         return 7;
@@ -82,7 +85,7 @@ fn content_fault(
     if !names::name_stands(obligation, second, m, i) {
         return 8;
     }
-    if !names::name_is_free(obligation, second, m, i) {
+    if !names::name_is_free(obligation, second, m, slots, i) {
         return 9;
     }
     if !typing_fits(obligation, second, m, mode, numbers, seen, i) {
@@ -91,7 +94,7 @@ fn content_fault(
     0
 }
 
-// The refusal of record i of a file of kind `mode`, 0 for none.
+// The refusal of record i of a file of kind `mode`, 0 for none; the slots as in `content_fault`.
 fn record_fault(
     obligation: &[u8],
     second: &[u8],
@@ -99,17 +102,18 @@ fn record_fault(
     mode: u8,
     numbers: &[usize],
     seen: &mut [usize],
+    slots: &mut [u32],
     i: usize,
     w: usize,
 ) -> usize
-    requires { ⌜ (w ≡ capped (weight (tree (word (now obligation) (now second) m) i))) × Numbered (word (now obligation) (now second) m) (now numbers) (length (now numbers)) ⌝ }
-    ensures { λ r. ⌜ r ≡ recordFault mode (word (now (obligation .entry)) (now (second .entry)) m) i ⌝ }
+    requires { ⌜ (w ≡ capped (weight (tree (word (now obligation) (now second) m) i))) × Numbered (word (now obligation) (now second) m) (now numbers) (length (now numbers)) × (0 < i) × Room (now slots) i × Names (word (now obligation) (now second) m) (now slots) i ⌝ }
+    ensures { λ r. ⌜ (r ≡ recordFault mode (word (now (obligation .entry)) (now (second .entry)) m) i) × (r ≡ 0 → Names (word (now (obligation .entry)) (now (second .entry)) m) (now (slots .exit)) (i + 1)) ⌝ }
 {
     let why = words_fault(obligation, second, m, mode, i);
     if why != 0 {
         return why;
     }
-    content_fault(obligation, second, m, mode, numbers, seen, i, w)
+    content_fault(obligation, second, m, mode, numbers, seen, slots, i, w)
 }
 
 // Fills the table with the weights of records 1 to last.
@@ -126,7 +130,7 @@ pub fn weigh_all(obligation: &[u8], second: &[u8], m: usize, table: &mut [u16], 
 }
 
 // The first record from `first` to `last` with a refusal, in file 1 for an obligation (mode 0), else 2. The table has the weights
-// below `first`; `seen` is scratch.
+// below `first`, the slots the names; `seen` is scratch.
 pub fn first_fault(
     obligation: &[u8],
     second: &[u8],
@@ -134,18 +138,19 @@ pub fn first_fault(
     mode: u8,
     numbers: &[usize],
     seen: &mut [usize],
+    slots: &mut [u32],
     table: &mut [u16],
     first: usize,
     last: usize,
 ) -> Answer
-    requires { ⌜ (0 < first) × (last < length (now table)) × Filled (word (now obligation) (now second) m) (now table) first × Numbered (word (now obligation) (now second) m) (now numbers) (length (now numbers)) ⌝ }
+    requires { ⌜ (0 < first) × (last < length (now table)) × Filled (word (now obligation) (now second) m) (now table) first × Numbered (word (now obligation) (now second) m) (now numbers) (length (now numbers)) × Room (now slots) last × Names (word (now obligation) (now second) m) (now slots) first ⌝ }
     ensures { λ r. ⌜ r ≡ firstFault (recordFault mode (word (now (obligation .entry)) (now (second .entry)) m)) (fileOf mode) (last + 1 - first) first ⌝ }
 {
     let file = file_of(mode);
     let mut i = first;
     while i <= last {
         let w = weights::weigh(obligation, second, m, table, i);
-        let why = record_fault(obligation, second, m, mode, numbers, seen, i, w);
+        let why = record_fault(obligation, second, m, mode, numbers, seen, slots, i, w);
         if why != 0 {
             return Answer {
                 refusal: why,

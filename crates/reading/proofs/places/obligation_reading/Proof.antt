@@ -1,6 +1,7 @@
 use borrow.Author.Needs.{needs}
+use native.Mathlib.Omega.{arith}
 use mathlib.Core.Path.{refl}
-use Rattle.reading.specs.Places.{obligation-length, obligation-header, obligation-small, obligation-rest}
+use Rattle.reading.specs.Places.{obligation-length, obligation-header, obligation-small, obligation-rest, zeros-zeros}
 use Rattle.reading.proofs.places.obligation_reading.Statement.{statement}
 use Rattle.reading.proofs.places.obligation_reading.Tie as tie
 
@@ -42,9 +43,11 @@ obligation-reading-spec = tie.close (tie.spec
     (λ c. search needs)
     -- slice-aggregate-obligation-body-2: scratch3; 1 numbers3; 2 obligation-body-arg; 3 scratch2; 4 numbers2; 5 number-all; 6 scratch; 7 numbers; 8 number-all-arg; 9 word-of; 10 if2; 11 header-fits; 12 if1; 13 length-fits; 15 args
     (λ c. search needs)
-    -- slice-aggregate-obligation-body-3: table; 1 scratch3; 2 numbers3; 3 obligation-body-arg; 4 scratch2; 5 numbers2; 6 number-all; 7 scratch; 8 numbers; 9 number-all-arg; 10 word-of; 11 if2; 12 header-fits; 13 if1; 14 length-fits; 16 args
+    -- slice-aggregate-obligation-body-3: slots; 1 scratch3; 2 numbers3; 3 obligation-body-arg; 4 scratch2; 5 numbers2; 6 number-all; 7 scratch; 8 numbers; 9 number-all-arg; 10 word-of; 11 if2; 12 header-fits; 13 if1; 14 length-fits; 16 args
     (λ c. search needs)
-    -- obligation-body-requires: table; 1 scratch3; 2 numbers3; 3 obligation-body-arg; 4 scratch2; 5 numbers2; 6 number-all; 7 scratch; 8 numbers; 9 number-all-arg; 10 word-of; 11 if2; 12 header-fits; 13 if1; 14 length-fits; 16 args
-    (λ c κs. (obligation-small _ _ (c .before .before .before .before .before .before .before .before .before .before .before .before .before .before .length-fits .ensures) (c .before .before .before .before .before .before .before .before .before .before .before .before .before .if1 .left) _ (c .before .before .before .before .before .before .before .before .before .before .before .before .header-fits .ensures) (c .before .before .before .before .before .before .before .before .before .before .before .if2 .left) _ (c .before .before .before .before .before .before .before .before .before .before .word-of .ensures), record { first = refl }, c .before .before .before .before .before .before .number-all .ensures))
-    -- returns-3: table2; 1 scratch4; 2 obligation-body; 3 table; 4 scratch3; 5 numbers3; 6 obligation-body-arg; 7 scratch2; 8 numbers2; 9 number-all; 10 scratch; 11 numbers; 12 number-all-arg; 13 word-of; 14 if2; 15 header-fits; 16 if1; 17 length-fits; 19 args
-    (λ c. obligation-rest _ _ (c .before .before .before .before .before .before .before .before .before .before .before .before .before .before .before .before .before .length-fits .ensures) (c .before .before .before .before .before .before .before .before .before .before .before .before .before .before .before .before .if1 .left) _ (c .before .before .before .before .before .before .before .before .before .before .before .before .before .before .before .header-fits .ensures) (c .before .before .before .before .before .before .before .before .before .before .before .before .before .before .if2 .left) _ (c .before .before .before .before .before .before .before .before .before .before .before .before .before .word-of .ensures) _ (c .before .before .obligation-body .ensures)))
+    -- slice-aggregate-obligation-body-4: table; 1 slots; 2 scratch3; 3 numbers3; 4 obligation-body-arg; 5 scratch2; 6 numbers2; 7 number-all; 8 scratch; 9 numbers; 10 number-all-arg; 11 word-of; 12 if2; 13 header-fits; 14 if1; 15 length-fits; 17 args
+    (λ c. search needs)
+    -- obligation-body-requires: table; 1 slots; 2 scratch3; 3 numbers3; 4 obligation-body-arg; 5 scratch2; 6 numbers2; 7 number-all; 8 scratch; 9 numbers; 10 number-all-arg; 11 word-of; 12 if2; 13 header-fits; 14 if1; 15 length-fits; 17 args
+    (λ c κs. let s = obligation-small _ _ (c .before .before .before .before .before .before .before .before .before .before .before .before .before .before .before .length-fits .ensures) (c .before .before .before .before .before .before .before .before .before .before .before .before .before .before .if1 .left) _ (c .before .before .before .before .before .before .before .before .before .before .before .before .before .header-fits .ensures) (c .before .before .before .before .before .before .before .before .before .before .before .before .if2 .left) _ (c .before .before .before .before .before .before .before .before .before .before .before .word-of .ensures) in (s, omega (arith, s), record { first = refl }, zeros-zeros 6144, c .before .before .before .before .before .before .before .number-all .ensures))
+    -- returns-3: table2; 1 slots2; 2 scratch4; 3 obligation-body; 4 table; 5 slots; 6 scratch3; 7 numbers3; 8 obligation-body-arg; 9 scratch2; 10 numbers2; 11 number-all; 12 scratch; 13 numbers; 14 number-all-arg; 15 word-of; 16 if2; 17 header-fits; 18 if1; 19 length-fits; 21 args
+    (λ c. obligation-rest _ _ (c .before .before .before .before .before .before .before .before .before .before .before .before .before .before .before .before .before .before .before .length-fits .ensures) (c .before .before .before .before .before .before .before .before .before .before .before .before .before .before .before .before .before .before .if1 .left) _ (c .before .before .before .before .before .before .before .before .before .before .before .before .before .before .before .before .before .header-fits .ensures) (c .before .before .before .before .before .before .before .before .before .before .before .before .before .before .before .before .if2 .left) _ (c .before .before .before .before .before .before .before .before .before .before .before .before .before .before .before .word-of .ensures) _ (c .before .before .before .obligation-body .ensures)))

@@ -1,8 +1,8 @@
 use borrow.Author.Needs.{needs}
 use Rattle.reader.specs.Tests.{ifs-of}
 use Rattle.reader.specs.Names.{nameOf}
-use Rattle.names.proofs.name_of.Statement.{statement}
-use Rattle.names.proofs.name_of.Tie as tie
+use Rattle.names.proofs.symbols.name_of.Statement.{statement}
+use Rattle.names.proofs.symbols.name_of.Tie as tie
 
 pub name-of-spec : {M : Type 1} → statement M
 unfolding nameOf
