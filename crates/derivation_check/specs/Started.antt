@@ -1,9 +1,9 @@
 -- The start of the walk over a pair that passes places 1 to 12.
 use Prim.Native.Nat.{ℕ, zero, suc, _+_, _*_, _<_, _≤_}
 use mathlib.Core.Path.{_≡_, refl, sym, ap, _∙_}
-use mathlib.Core.List.{List}
+use mathlib.Core.List.{List, _++_}
 use mathlib.Core.Bool.{Bool, true, false}
-use lib.ListN.{length, take, replicate, length-replicate}
+use lib.ListN.{length, take, drop, replicate, length-replicate, length-append, length-take, length-drop}
 use lib.Seq.{length-take-le}
 use native.Mathlib.Omega.{arith}
 use borrow.Author.Tests.{eq-eqb, ne-eqb}
@@ -16,6 +16,7 @@ use Rattle.reader.specs.Chains.{linked}
 use Rattle.reader.specs.Laws.{child-below}
 use Rattle.reader.specs.Answers.{orAnswer}
 use Rattle.reader.specs.Places.{mostRecords, hypothesisChain, negatedGoal, countOf, rootOf, reading}
+use Rattle.reading.specs.Places.{Roomy}
 use Rattle.typing.specs.Shapes.{first-tree, child-zero}
 use Rattle.accepted.specs.File.{ReadObligation, ReadSecond, beside, lastOf, reading-parts, length-parts, header-parts, counts-parts}
 use Rattle.accepted.specs.Parts.{bound-variable-first}
@@ -208,3 +209,16 @@ part-length k h = length-take-le k (replicate 201024 0) (rw long h)
   where
     long : length {A = ℕ} (replicate 201024 0) ≡ 201024
     long = length-replicate {A = ℕ} 201024 0
+
+-- the part of a table that the walk is lent
+pub prefix-length : (k : ℕ) (table : List ℕ) (n : ℕ) → k ≤ n → n ≤ length table → length (take k table) ≡ k
+prefix-length k table n h g = length-take-le k table (omega arith)
+
+-- a table whose first part was lent and came back
+pub joined-length : (k : ℕ) (part table first : List ℕ) → length part ≡ length (take k table) → length table ≡ length first → length (part ++ drop k table) ≡ length first
+joined-length k part table first p t = omega (arith, length-append part (drop k table), length-drop k table, length-take k table)
+
+-- the lengths of the tables that the reading was lent
+pub lent-lengths : (slots weights named passed : List ℕ) → Roomy 2 slots weights named passed → (406144 ≤ length slots) × (201024 ≤ length named) × (201024 ≤ length passed)
+unfolding mostRecords ifEq
+lent-lengths slots weights named passed room = (omega (arith, room .symbols), omega (arith, room .names), omega (arith, room .links))

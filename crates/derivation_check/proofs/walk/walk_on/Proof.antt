@@ -6,11 +6,11 @@ use Rattle.derivation_check.proofs.walk.walk_on.Statement.{statement}
 use Rattle.derivation_check.proofs.walk.walk_on.Tie as tie
 
 abbrev Inv-loop : tie.InvT-loop
-Inv-loop obligation second m keys reaches frames₀ marks₀ ways₀ deepest entered d₀ count₀ frames marks ways d count =
+Inv-loop obligation second m keys reaches weights frames₀ marks₀ ways₀ deepest entered d₀ count₀ frames marks ways d count =
     Turn (word obligation second m) keys frames₀ marks₀ ways₀ deepest entered frames marks ways d count
 
 abbrev μ-loop : tie.MeasureT-loop
-μ-loop obligation second m keys reaches frames₀ marks₀ ways₀ deepest entered d₀ count₀ frames marks ways d count =
+μ-loop obligation second m keys reaches weights frames₀ marks₀ ways₀ deepest entered d₀ count₀ frames marks ways d count =
     left (word obligation second m) ways d
 
 pub walk-on-spec : {M : Type 1} → statement M
