@@ -201,7 +201,8 @@ fn type_instances() -> Shape {
 /// Rule 45 with four heavy types and a heavy instance, over and over.
 fn heavy_types() -> Shape {
     let mut sheet = Sheet::new(Second::Proof);
-    let (_, formula) = heavy_terms(&mut sheet);
+    let (function, c) = (binary(&mut sheet), sheet.c);
+    let (_, formula) = heavy_terms(&mut sheet, function, c);
     let hypothesis = sheet.w.push(ALL_TYPES, 4, formula, 0);
     let ty = sheet.doubled_type(sheet.given, 11);
     let mut branch = Branch::new(sheet, hypothesis);
@@ -222,27 +223,47 @@ fn equalities() -> Shape {
     branch.close("heavy body with t and u (46)")
 }
 
-/// Heavy terms, a function of two arguments applied to one term twice, over and over; the last but one, doubled
-/// by =, is as heavy a formula.
-fn heavy_terms(sheet: &mut Sheet) -> (u32, u32) {
-    let (given, c) = (sheet.given, sheet.c);
+/// A function of two arguments and the chain of its applications' own type.
+fn binary(sheet: &mut Sheet) -> (u32, u32) {
+    let given = sheet.given;
     let types = sheet.w.chain(&[given, given, given]);
     let name = sheet.w.name(b"f");
     let f = sheet.w.push(FUNCTION, types, 0, name);
-    let own = sheet.w.chain(&[given]);
+    (f, sheet.w.chain(&[given]))
+}
+
+/// Heavy terms, such a function applied to one term twice, over and over from a leaf on; the last but one, doubled
+/// by =, is as heavy a formula.
+fn heavy_terms(sheet: &mut Sheet, (f, own): (u32, u32), leaf: u32) -> (u32, u32) {
     let applied = |sheet: &mut Sheet, term: u32| {
         let arguments = sheet.w.chain(&[term, term]);
         sheet.w.push(APPLICATION, f, own, arguments)
     };
-    let half = (0..9).fold(c, |term, _| applied(sheet, term));
+    let half = (0..9).fold(leaf, |term, _| applied(sheet, term));
     let formula = sheet.w.push(EQUAL, half, half, 0);
     (applied(sheet, half), formula)
+}
+
+/// Rule 46 with one heavy body of applications, index 0 at each of its leaves, and its instance, over and over.
+fn applied_equalities() -> Shape {
+    let mut sheet = Sheet::new(Second::Proof);
+    let function = binary(&mut sheet);
+    let x = sheet.w.push(BOUND, 0, sheet.given, 0);
+    let c = sheet.c;
+    let [body, instance] = [x, c].map(|leaf| heavy_terms(&mut sheet, function, leaf).1);
+    let mut branch = Branch::new(sheet, instance);
+    let parts = branch.sheet.w.chain(&[body, c, c, instance, instance]);
+    while branch.has_room(4, 1) {
+        branch.node(46, parts, 2, 1);
+    }
+    branch.close("heavy body of applications with t and u (46)")
 }
 
 /// Rule 46 with a heavy body without index 0 and a heavy term, over and over.
 fn heavy_equalities() -> Shape {
     let mut sheet = Sheet::new(Second::Proof);
-    let (term, formula) = heavy_terms(&mut sheet);
+    let (function, c) = (binary(&mut sheet), sheet.c);
+    let (term, formula) = heavy_terms(&mut sheet, function, c);
     let mut branch = Branch::new(sheet, formula);
     let parts = [formula, term, term, formula, formula];
     let parts = branch.sheet.w.chain(&parts);
@@ -266,27 +287,27 @@ fn heavy_cuts() -> Shape {
     branch.close("heavy part, closed (37, 34)")
 }
 
-/// The deepest walk over the deepest parts: below a cut of ∀ over a formula nested as deep as there is room
-/// beside 1,020 nodes, its instance at each node.
+/// The deepest walk over the deepest parts: a body with index 0 nested as deep as the obligation has room, and the
+/// instance of the ∀ over it at each node.
 fn deepest() -> Shape {
     let mut sheet = Sheet::new(Second::Proof);
-    let mut body = sheet.bottom;
-    while sheet.is_before(sheet.end(5)) {
+    let (given, c) = (sheet.given, sheet.c);
+    let x = sheet.w.push(BOUND, 0, given, 0);
+    let open = sheet.w.push(EQUAL, x, x, 0);
+    let mut body = open;
+    while sheet.is_before(sheet.end(6)) {
         body = sheet.w.push(NOT, body, 0, 0);
     }
-    let (given, c) = (sheet.given, sheet.c);
-    let mut branch = Branch::new(sheet, body);
-    while branch.sheet.is_before(branch.sheet.end(2_060)) {
-        body = branch.sheet.w.push(NOT, body, 0, 0);
-    }
-    let all = branch.sheet.w.push(ALL, given, body, 0);
-    let parts = branch.sheet.w.chain(&[all, c, body]);
-    let cut = branch.sheet.w.chain(&[all]);
-    while branch.has_room(7, 2) {
+    let depth = body - open;
+    let all = sheet.w.push(ALL, given, body, 0);
+    let mut branch = Branch::new(sheet, all);
+    let w = &mut branch.sheet.w;
+    let closed = w.push(EQUAL, c, c, 0);
+    let instance = (0..depth).fold(closed, |part, _| w.push(NOT, part, 0, 0));
+    let parts = w.chain(&[all, c, instance]);
+    while branch.has_room(2, 1) {
         branch.node(44, parts, 1, 1);
     }
-    let first = branch.again();
-    branch.node_beside(37, cut, &[first], 1);
     branch.close("deepest walk, deepest instance (44)")
 }
 
@@ -326,6 +347,7 @@ pub fn walks() -> Vec<Shape> {
         type_instances(),
         heavy_types(),
         equalities(),
+        applied_equalities(),
         heavy_equalities(),
         heavy_cuts(),
         deepest(),
