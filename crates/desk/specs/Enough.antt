@@ -1,6 +1,6 @@
 -- Of each file one byte more is read than an accepted one has.
 use Prim.Native.Nat.{ℕ}
-use mathlib.Core.Path.{_≡_}
+use mathlib.Core.Path.{_≡_, refl}
 use mathlib.Core.List.{List}
 use lib.ListN.{take}
 use Rattle.reader.specs.Tests.{ifEq}
@@ -19,4 +19,4 @@ proofRead = 49169
 -- "A file longer than any accepted one is still answered rightly (read one byte more than the limit)"
 pub enough : (ob pf : List ℕ) → proofAnswer (take obligationRead ob) (take proofRead pf) ≡ proofAnswer ob pf
 unfolding proofAnswer mostRecords ifEq
-enough = any-answer.enough 1 (λ ob pf. proofWalk (word ob pf (countOf ob)) (rootOf pf))
+enough = any-answer.enough 1 (λ ob pf. proofWalk (word ob pf (countOf ob)) (rootOf pf)) obligationRead proofRead refl refl

@@ -14,12 +14,9 @@ use Rattle.reader.specs.Tests.{both, demand}
 use Rattle.reader.specs.Words.{recordCount}
 use Rattle.reader.specs.Places.{mostRecords, lengthFits, obligationReading, secondReading, reading}
 
--- the bytes of a longest file of its kind, and the bytes read of one
+-- the bytes of a longest file of its kind
 abbrev pub mostBytes : ℕ → ℕ
 mostBytes mode = 16 * mostRecords mode
-
-abbrev pub bytesRead : ℕ → ℕ
-bytesRead mode = 16 * mostRecords mode + 1
 
 both-false : (a : Bool) → both a false ≡ false
 unfolding both
@@ -78,7 +75,12 @@ module _ (mode : ℕ) (rest : List ℕ → List ℕ → Answer) where
   unfolding reading
   second-refused ob s h = simp (reading, second-long mode ob s h) (stays (obligationReading ob) (rest ob s))
 
-  pub enough : (ob s : List ℕ) → afterReading mode rest (take (bytesRead 0) ob) (take (bytesRead mode) s) ≡ afterReading mode rest ob s
-  enough ob s =
-      cut (mostBytes 0) (λ a. afterReading mode rest a (take (bytesRead mode) s)) _ (obligation-refused (take (bytesRead mode) s)) ob
-      ∙ cut (mostBytes mode) (λ b. afterReading mode rest ob b) _ (second-refused ob) s
+  pub enough :
+      (first second : ℕ) →
+      first ≡ mostBytes 0 + 1 →
+      second ≡ mostBytes mode + 1 →
+      (ob s : List ℕ) →
+      afterReading mode rest (take first ob) (take second s) ≡ afterReading mode rest ob s
+  enough first second e f ob s =
+      rw (e, f) (cut (mostBytes 0) (λ a. afterReading mode rest a (take (mostBytes mode + 1) s)) _ (obligation-refused (take (mostBytes mode + 1) s)) ob
+      ∙ cut (mostBytes mode) (λ b. afterReading mode rest ob b) _ (second-refused ob) s)
