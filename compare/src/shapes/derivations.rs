@@ -190,6 +190,70 @@ fn translated() -> Shape {
     maker.close("translated 37, 39, 42, 1,000 members", root)
 }
 
+/// What the translation makes of 43: BR4 ∀B [R7 c,B(c) [R5 ⊥ [p1; BR6]]; R5 ∀B [BR3; BR3]], ¬∀B a member.
+fn negated_universal(maker: &mut Maker, [all, c, instance]: [u32; 3], p1: u32) -> u32 {
+    let parts = maker.sheet.w.chain(&[all]);
+    let fresh = maker.sheet.w.chain(&[c, instance]);
+    let true_goal = maker.leaf(68);
+    let denied = maker.node(75, maker.bottom, &[p1, true_goal]);
+    let first = maker.node(77, fresh, &[denied]);
+    let members = [66, 66].map(|rule| maker.leaf(rule));
+    let second = maker.node(75, parts, &members);
+    maker.node(67, parts, &[first, second])
+}
+
+/// What the translation makes of 44: BR4 B(t) [R8 ∀B,t [BR3]; p1], ∀B a member.
+fn universal(maker: &mut Maker, [all, t, instance]: [u32; 3], p1: u32) -> u32 {
+    let parts = maker.sheet.w.chain(&[instance]);
+    let of_term = maker.sheet.w.chain(&[all, t]);
+    let member = maker.leaf(66);
+    let first = maker.node(78, of_term, &[member]);
+    maker.node(67, parts, &[first, p1])
+}
+
+/// What the translation makes of 46: BR4 B(u) [R9 B,(t=u),B(t) [R5 ⊥ [p1; BR6]; BR3]; p2], p1 closed by ⊥, B(t) a member.
+fn equality(maker: &mut Maker, parts: [u32; 3], with_u: u32, p2: u32) -> u32 {
+    let replaced = maker.sheet.w.chain(&parts);
+    let added = maker.sheet.w.chain(&[with_u]);
+    let premises = [maker.anything(), maker.leaf(66)];
+    let first = maker.node(79, replaced, &premises);
+    maker.node(67, added, &[first, p2])
+}
+
+/// Translated instances of ∀ and equalities up to some 450 members, over and over, up to the file's end.
+fn translated_terms() -> Shape {
+    let mut sheet = Sheet::new(Second::Derivation);
+    let (given, c, s) = (sheet.given, sheet.c, sheet.s);
+    let x = sheet.w.push(BOUND, 0, given, 0);
+    let body = sheet.w.push(IN, x, s, 0);
+    let all = sheet.w.push(ALL, given, body, 0);
+    let not_all = sheet.w.push(NOT, all, 0, 0);
+    let u = sheet.constant(given);
+    let mut maker = Maker::new(sheet, &[all, not_all]);
+    let [with_c, with_u] = [c, u].map(|term| maker.push(IN, term, s, 0));
+    let equation = maker.push(EQUAL, c, u, 0);
+    let fresh: Vec<[u32; 3]> = (0..150)
+        .map(|_| {
+            let d = maker.sheet.constant(given);
+            [all, d, maker.push(IN, d, s, 0)]
+        })
+        .collect();
+    let bottom = maker.sheet.bottom;
+    let root = maker.branches(bottom, 100, 0, |maker| {
+        let mut root = maker.leaf(66);
+        for &parts in &fresh {
+            if !maker.has_room(80) {
+                break;
+            }
+            root = negated_universal(maker, parts, root);
+            root = equality(maker, [body, equation, with_c], with_u, root);
+            root = universal(maker, [all, c, with_c], root);
+        }
+        root
+    });
+    maker.close("translated 43, 44, 46, 450 members", root)
+}
+
 /// The deepest branches: BR2 that keeps ⊥.
 fn deep() -> Shape {
     maker().fill("depth 8,192 by BR2", 1, |maker, root| {
@@ -197,20 +261,7 @@ fn deep() -> Shape {
     })
 }
 
-/// The deepest branches, BR3 at each node: nothing is kept or added, and ⊥ is the first member of all.
-fn deep_members() -> Shape {
-    let mut maker = maker();
-    let bottom = maker.sheet.bottom;
-    let both = maker.push(AND, bottom, bottom, 0);
-    let parts = maker.sheet.w.chain(&[both]);
-    maker.fill("BR3 at depth 8,192 (R1, R2)", 2, |maker, root| {
-        let member = maker.leaf(66);
-        let joined = maker.node(70, 0, &[member, root]);
-        maker.node(71, parts, &[joined])
-    })
-}
-
-/// Members of their own, as many as there is room for beside 20, by BR4 above the root.
+/// Members of their own, by BR4 above the root, the last one the first that is added.
 fn with_members(maker: &mut Maker, formulas: &[u32], root: u32) -> u32 {
     formulas.iter().fold(root, |root, &formula| {
         let parts = maker.sheet.w.chain(&[formula]);
@@ -219,43 +270,63 @@ fn with_members(maker: &mut Maker, formulas: &[u32], root: u32) -> u32 {
     })
 }
 
-/// 2,000 members of their own, and BR3 for the first and the last that was added, over and over.
-fn members() -> Shape {
-    let mut maker = maker();
-    let count = MOST_MEMBERS - 48;
-    let formulas: Vec<u32> = (0..count).map(|number| maker.numbered(number)).collect();
-    let ends = [formulas[0], formulas[formulas.len() - 1]];
-    let goal = maker.push(AND, ends[0], ends[1], 0);
-    // The goal as often as a formula may have it.
-    let (tree, leaves) = (maker.sheet.doubled(goal, 7), 1 << 7);
-    let spare = 12 * count;
-    let root = maker.branches(tree, 40, spare, |maker| {
-        let mut level: Vec<u32> = (0..2 * leaves).map(|_| maker.leaf(66)).collect();
+/// R1 over and over down to 256 leaves, BR3 for either of two members; as often as there is room for with so many records
+/// left over.
+fn looked_for(maker: &mut Maker, members: [u32; 2], spare: u32) -> u32 {
+    let both = maker.push(AND, members[0], members[1], 0);
+    let goal = maker.sheet.doubled(both, 7);
+    maker.branches(goal, 500, spare + 1_024, |maker| {
+        let mut level: Vec<u32> = (0..256).map(|_| maker.leaf(66)).collect();
         while level.len() > 1 {
-            level = level
-                .chunks(2)
-                .map(|pair| maker.node(70, 0, pair))
-                .collect();
+            let joined = level.chunks(2).map(|pair| maker.node(70, 0, pair));
+            level = joined.collect();
         }
         level[0]
-    });
-    let root = with_members(&mut maker, &formulas, root);
-    maker.close("BR3 among 2,000 members", root)
+    })
 }
 
-/// 2,000 members of their own, kept by BR2 over and over: so many nodes of it.
+/// 1,500 members of their own, and BR3 for the first and the last of them up to the file's end.
+fn members() -> Shape {
+    let mut maker = maker();
+    let formulas: Vec<u32> = (0..1_500).map(|number| maker.numbered(number)).collect();
+    let ends = [formulas[0], formulas[formulas.len() - 1]];
+    let root = looked_for(&mut maker, ends, 12 * 1_500);
+    let root = with_members(&mut maker, &formulas, root);
+    maker.close("BR3 among 1,500 members", root)
+}
+
+/// Two members that are added 7,600 nodes apart, and BR3 for them below these nodes up to the file's end.
+fn deep_members() -> Shape {
+    let mut maker = maker();
+    let bottom = maker.sheet.bottom;
+    let both = maker.push(AND, bottom, bottom, 0);
+    let parts = maker.sheet.w.chain(&[both]);
+    let ends = [1, 2].map(|number| maker.numbered(number));
+    let root = looked_for(&mut maker, ends, 6 * 3_800 + 40);
+    let mut root = with_members(&mut maker, &ends[..1], root);
+    for _ in 0..3_800 {
+        let member = maker.leaf(66);
+        let joined = maker.node(70, 0, &[member, root]);
+        root = maker.node(71, parts, &[joined]);
+    }
+    let root = with_members(&mut maker, &ends[1..], root);
+    maker.close("BR3 at depth 8,000", root)
+}
+
+/// BR2 so often, each keeping 2,048 members, all but one of them the last of those above.
 fn kept(nodes: u32) -> Shape {
     let mut maker = maker();
-    let count = MOST_MEMBERS - 48;
-    let formulas: Vec<u32> = (0..count).map(|number| maker.numbered(number)).collect();
+    let (bottom, other) = (maker.sheet.bottom, maker.numbered(1));
+    let parts = [[bottom, other], [other, bottom]].map(|[often, once]| {
+        let last = maker.push(LINK, once, 0, 0);
+        (1..MOST_MEMBERS).fold(last, |next, _| maker.push(LINK, often, 0, next))
+    });
     let mut root = maker.leaf(66);
-    let all = [&[maker.sheet.bottom], &formulas[..]].concat();
-    let parts = maker.sheet.w.chain(&all);
-    for _ in 0..nodes {
-        root = maker.node(65, parts, &[root]);
+    for number in 0..nodes {
+        root = maker.node(65, parts[number as usize % 2], &[root]);
     }
-    let root = with_members(&mut maker, &formulas, root);
-    maker.close(&format!("BR2 that keeps 2,000, {nodes} times"), root)
+    let root = with_members(&mut maker, &[other], root);
+    maker.close(&format!("BR2 that keeps 2,048, {nodes} times"), root)
 }
 
 /// A large formula of its own for each number, in some 8,000 records.
@@ -386,10 +457,11 @@ pub fn derivations() -> Vec<Shape> {
     vec![
         smallest(),
         translated(),
+        translated_terms(),
         deep(),
         deep_members(),
         members(),
-        kept(50),
+        kept(100),
         fresh(200),
         heavy("R9 over a heavy shared body", equalities, doubled, 500),
         heavy("R9 over a body nested in ¬", equalities, nested_not, 500),
