@@ -13,6 +13,8 @@ const BRANCH: u32 = 8_150;
 /// A derivation in the making, written from its leaves up.
 struct Maker {
     sheet: Sheet,
+    /// A function of one argument.
+    function: u32,
     /// The chain of ⊥ alone, as parts.
     bottom: u32,
 }
@@ -22,9 +24,16 @@ impl Maker {
     fn new(mut sheet: Sheet, others: &[u32]) -> Maker {
         let hypotheses = [&[sheet.bottom], others].concat();
         sheet.head = sheet.w.chain(&hypotheses);
+        let types = sheet.w.chain(&[sheet.given, sheet.given]);
+        let name = sheet.w.name(b"f");
+        let function = sheet.w.push(FUNCTION, types, 0, name);
         sheet.end_obligation();
         let bottom = sheet.w.push(LINK, sheet.bottom, 0, 0);
-        Maker { sheet, bottom }
+        Maker {
+            sheet,
+            function,
+            bottom,
+        }
     }
 
     fn push(&mut self, kind: u32, a: u32, b: u32, c: u32) -> u32 {
@@ -376,30 +385,41 @@ fn universals(mut maker: Maker, name: &str, [body, instance]: [u32; 2], steps: u
     })
 }
 
-/// A formula x=x or c=c, and `grown` of it.
-fn grown(maker: &mut Maker, grown: impl Fn(&mut Maker, u32) -> u32) -> [u32; 2] {
+/// A body and its instance by c: `grow` of index 0 and of c.
+fn grown(maker: &mut Maker, grow: impl Fn(&mut Maker, u32) -> u32) -> [u32; 2] {
     let (given, c) = (maker.sheet.given, maker.sheet.c);
     let x = maker.push(BOUND, 0, given, 0);
-    [x, c].map(|term| {
-        let same = maker.push(EQUAL, term, term, 0);
-        grown(maker, same)
-    })
+    [x, c].map(|term| grow(maker, term))
 }
 
-/// Doubled up to a weight of 12,287.
-fn doubled(maker: &mut Maker, formula: u32) -> u32 {
-    maker.sheet.doubled(formula, 11)
+/// t=t doubled up to a weight of 12,287.
+fn doubled(maker: &mut Maker, term: u32) -> u32 {
+    let same = maker.push(EQUAL, term, term, 0);
+    maker.sheet.doubled(same, 11)
 }
 
-/// Nested in ¬ up to a weight of 16,384.
-fn nested_not(maker: &mut Maker, formula: u32) -> u32 {
-    (0..16_370).fold(formula, |formula, _| maker.push(NOT, formula, 0, 0))
+/// t=t nested in ¬ up to a weight of 16,384.
+fn nested_not(maker: &mut Maker, term: u32) -> u32 {
+    let same = maker.push(EQUAL, term, term, 0);
+    (0..16_370).fold(same, |formula, _| maker.push(NOT, formula, 0, 0))
 }
 
-/// Nested on the right of ∧ up to a weight of 16,384.
-fn nested_and(maker: &mut Maker, formula: u32) -> u32 {
+/// t=t nested on the right of ∧ up to a weight of 16,384.
+fn nested_and(maker: &mut Maker, term: u32) -> u32 {
+    let same = maker.push(EQUAL, term, term, 0);
     let bottom = maker.sheet.bottom;
-    (0..8_180).fold(formula, |formula, _| maker.push(AND, bottom, formula, 0))
+    (0..8_180).fold(same, |formula, _| maker.push(AND, bottom, formula, 0))
+}
+
+/// A function applied to t over and over, up to a weight of 16,384, equal to a constant.
+fn nested_terms(maker: &mut Maker, term: u32) -> u32 {
+    let (f, given, c) = (maker.function, maker.sheet.given, maker.sheet.c);
+    let own = maker.sheet.w.chain(&[given]);
+    let applied = (0..8_180).fold(term, |term, _| {
+        let arguments = maker.push(LINK, term, 0, 0);
+        maker.push(APPLICATION, f, own, arguments)
+    });
+    maker.push(EQUAL, applied, c, 0)
 }
 
 fn heavy(
@@ -449,6 +469,7 @@ pub fn deepest_derivations() -> Vec<Shape> {
         deep(),
         deepest("¬", nested_not),
         deepest("∧", nested_and),
+        deepest("f", nested_terms),
     ]
 }
 
@@ -466,9 +487,11 @@ pub fn derivations() -> Vec<Shape> {
         heavy("R9 over a heavy shared body", equalities, doubled, 500),
         heavy("R9 over a body nested in ¬", equalities, nested_not, 500),
         heavy("R9 over a body nested in ∧", equalities, nested_and, 500),
+        heavy("R9 over a body nested in f", equalities, nested_terms, 500),
         heavy("R8 over a heavy shared body", universals, doubled, 500),
         heavy("R8 over a body nested in ¬", universals, nested_not, 500),
         deepest("¬", nested_not),
         deepest("∧", nested_and),
+        deepest("f", nested_terms),
     ]
 }
