@@ -1,38 +1,49 @@
-/* `samples DIR` writes the files of cases D1 to D12 there, as they stand in tests/samples, and the answer of each in `expected`. */
+/* `samples DIR` writes the files of the samples there, as they stand in tests/samples, and the answer of each in `expected`.
+ * `samples DIR DEPTH` writes a derivation that is so deep there, `deep.derivation`; its obligation is that of e17. */
 #include <stdio.h>
+#include <stdlib.h>
 
 #include "cases.h"
 
-static void write_file(const char *directory, const char *name, const char *extension, const struct file *f)
+static void write_file(const char *directory, const char *name, const char *extension, const uint8_t *bytes, size_t length)
 {
     char path[1024];
     snprintf(path, sizeof path, "%s/%s.%s", directory, name, extension);
     FILE *out = fopen(path, "wb");
-    if (out == NULL || fwrite(f->bytes, 1, f->length, out) != f->length || fclose(out) != 0)
+    if (out == NULL || fwrite(bytes, 1, length, out) != length || fclose(out) != 0)
         perror(path);
 }
 
-static void write_pair(const char *directory, FILE *expected, const char *name, const struct pair *p, struct desk_answer a)
+static void write_sample(const char *directory, FILE *expected, const struct sample *s)
 {
-    write_file(directory, name, "obligation", &p->obligation);
-    write_file(directory, name, "proof", &p->proof);
-    fprintf(expected, "%s %u %u %lu %lu\n", name, a.refusal, a.file, a.record, a.nodes);
+    const char *kind = s->base->derivation ? "derivation" : "proof";
+    struct desk_answer a = s->answer;
+    struct pair p = pair_of(s);
+    write_file(directory, s->name, "obligation", p.obligation.bytes, p.obligation.length);
+    write_file(directory, s->name, kind, p.second.bytes, p.second.length);
+    fprintf(expected, "%s %s %u %u %lu %lu\n", kind, s->name, a.refusal, a.file, a.record, a.nodes);
+}
+
+static int write_samples(const char *directory)
+{
+    char path[1024];
+    snprintf(path, sizeof path, "%s/expected", directory);
+    FILE *expected = fopen(path, "w");
+    if (expected == NULL)
+        return 1;
+    for (size_t k = 0; k < COUNT(samples); k++)
+        write_sample(directory, expected, &samples[k]);
+    return fclose(expected) != 0;
 }
 
 int main(int count, char **arguments)
 {
-    char path[1024];
-    if (count != 2)
+    static uint8_t deep[TOO_DEEP_BYTES];
+    if (count == 2)
+        return write_samples(arguments[1]);
+    uint32_t depth = count == 3 ? (uint32_t)atol(arguments[2]) : 0;
+    if (depth < 1 || depth > TOO_DEEP)
         return 2;
-    snprintf(path, sizeof path, "%s/expected", arguments[1]);
-    FILE *expected = fopen(path, "w");
-    if (expected == NULL)
-        return 1;
-    for (size_t k = 0; k < COUNT(changes); k++) {
-        struct pair p = pair_of(&changes[k]);
-        write_pair(arguments[1], expected, changes[k].name, &p, changes[k].answer);
-    }
-    struct pair p = pair12();
-    write_pair(arguments[1], expected, "d12", &p, answer12);
-    return fclose(expected) != 0;
+    write_file(arguments[1], "deep", "derivation", deep, put_deep(deep, depth));
+    return 0;
 }

@@ -1,5 +1,6 @@
 //! Large files for measuring: ordinary ones, and ones that are costly for a careless reader.
 
+pub mod derivations;
 pub mod walks;
 
 use second::generate::rng::Rng;

@@ -1,11 +1,11 @@
-//! The proved code gives the second implementation's answers: places 1 to 12, and the whole proof check.
+//! The proved code gives the second implementation's answers: places 1 to 12, the proof check and the derivation check.
 
 use compare::bytes::{case, damage, random, random_records, small_case};
 use compare::desk;
 use compare::tally::Tally;
 use compare::threads::{in_thread, in_threads};
 use compare::Asked;
-use second::generate::large_proofs;
+use second::generate::large_cases;
 use second::generate::limits::limits;
 use second::generate::rng::Rng;
 use second::generate::Case;
@@ -16,19 +16,16 @@ use second::Answer;
 const THREADS: u64 = 2;
 const CASES: u64 = 60_000;
 const CHECKED_CASES: u64 = 100_000;
-/// A call of the derivation check clears some megabytes of tables.
-const CHECKED_DERIVATIONS: u64 = 20_000;
 const RAW_CASES: u64 = 30_000;
 /// Each makes some seven pairs.
-const LARGE_PROOFS: u64 = 3_000;
+const LARGE_CASES: u64 = 3_000;
 const MOST_RAW_BYTES: usize = 600;
 
 /// The number of generated cases for each question: COMPARE_CASES, or the usual one.
 fn generated_cases(asked: Asked) -> u64 {
     match (std::env::var("COMPARE_CASES"), asked) {
         (Ok(text), _) => text.parse().expect("COMPARE_CASES is a number"),
-        (Err(_), Asked::CheckProof) => CHECKED_CASES,
-        (Err(_), Asked::CheckDerivation) => CHECKED_DERIVATIONS,
+        (Err(_), Asked::CheckProof | Asked::CheckDerivation) => CHECKED_CASES,
         (Err(_), _) => CASES,
     }
 }
@@ -107,23 +104,32 @@ fn generated() {
     });
 }
 
-/// Accepted proofs of hundreds of nodes, and near misses of each.
-#[test]
-fn large() {
-    let count = LARGE_PROOFS.min(generated_cases(Asked::CheckProof));
+/// Accepted files of hundreds of nodes, and near misses of each.
+fn large(asked: Asked, what: &str) {
+    let count = LARGE_CASES.min(generated_cases(asked));
     let tallies = in_threads(THREADS, |thread| {
         let mut tally = Tally::default();
         for seed in (thread..count).step_by(THREADS as usize) {
-            for case in large_proofs(seed) {
+            for case in large_cases(asked.kind(), seed) {
                 let label = format!("seed {seed} {}", case.label);
-                tally.compare(&label, Asked::CheckProof, &case.obligation, &case.second);
+                tally.compare(&label, asked, &case.obligation, &case.second);
             }
         }
         tally
     });
     let tally = Tally::sum(tallies);
-    tally.report("large proofs and near misses");
+    tally.report(what);
     assert!(tally.large > count, "{} of hundreds of nodes", tally.large);
+}
+
+#[test]
+fn large_proofs() {
+    large(Asked::CheckProof, "large proofs and near misses");
+}
+
+#[test]
+fn large_derivations() {
+    large(Asked::CheckDerivation, "large derivations and near misses");
 }
 
 /// Random files and damaged ones, at odd addresses too.

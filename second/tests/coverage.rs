@@ -2,7 +2,7 @@
 
 use second::coverage::{rules, Coverage};
 use second::generate::limits::limits;
-use second::generate::{derivation_case, large_proofs, promised, proof_case};
+use second::generate::{derivation_case, large_cases, promised, proof_case};
 use second::reader::Second;
 
 const SEEDS: u64 = 20_000;
@@ -31,12 +31,11 @@ fn derivations() {
     covers(Second::Derivation);
 }
 
-/// Large accepted proofs in number, with all rules, and near misses of them.
-#[test]
-fn large() {
-    let mut coverage = Coverage::new(Second::Proof);
+/// Large accepted files in number, with all rules, and near misses of them.
+fn large(kind: Second) {
+    let mut coverage = Coverage::new(kind);
     let mut of_hundreds = 0;
-    for case in (0..LARGE_SEEDS).flat_map(large_proofs) {
+    for case in (0..LARGE_SEEDS).flat_map(|seed| large_cases(kind, seed)) {
         let answer = coverage.add(&case);
         let kept = promised(&case.label).is_none_or(|refusal| refusal == answer.refusal);
         assert!(kept, "{}: {answer}", case.label);
@@ -44,8 +43,18 @@ fn large() {
     }
     println!("large {coverage}");
     assert!(of_hundreds > LARGE_SEEDS);
-    assert!(rules(Second::Proof).all(|rule| coverage.files[rule] > LARGE_SEEDS / 2));
+    assert!(rules(kind).all(|rule| coverage.files[rule] > LARGE_SEEDS / 2));
     assert!((12..=17).all(|refusal| coverage.cases_of(refusal) > 0));
+}
+
+#[test]
+fn large_proofs() {
+    large(Second::Proof);
+}
+
+#[test]
+fn large_derivations() {
+    large(Second::Derivation);
 }
 
 #[test]

@@ -1,7 +1,8 @@
 //! `bench [SYMBOLS [NAME]]`: time per call of the proved code next to the second implementation's, on the
-//! same files: the reading, and for accepted proofs (w) the whole check. At most SYMBOLS symbols where names
-//! are measured; only shapes with NAME in their name.
+//! same files: the reading, and for accepted proofs (w) and derivations (x) the whole check. At most SYMBOLS symbols
+//! where names are measured; only shapes with NAME in their name.
 
+use compare::shapes::derivations::derivations;
 use compare::shapes::walks::walks;
 use compare::shapes::{shapes, Shape};
 use compare::threads::in_thread;
@@ -42,8 +43,14 @@ fn main() {
         }
     }
     println!("{CHECK_HEAD}");
-    for shape in kept(walks()) {
-        let times = in_thread(|| measure(&shape, Asked::CheckProof));
+    for shape in kept(walks()).chain(kept(derivations())) {
+        let times = in_thread(|| measure(&shape, check(shape.kind)));
+        assert!(
+            times.answer.is_accepted(),
+            "{}: {}",
+            shape.name,
+            times.answer
+        );
         println!("{}", check_row(&shape, &times));
         slow.extend((times.proved > SLOW_CHECK).then_some(shape.name));
     }
@@ -60,10 +67,17 @@ fn reading(kind: Second) -> Asked {
     }
 }
 
+fn check(kind: Second) -> Asked {
+    match kind {
+        Second::Proof => Asked::CheckProof,
+        Second::Derivation => Asked::CheckDerivation,
+    }
+}
+
 const READING_HEAD: &str =
     "reading                                              records   proved ms   second ms proved ns second ns  answer";
 const CHECK_HEAD: &str =
-    "check                                                records nodes   proved ms   second ms nodes a second  ratio";
+    "check                                                records  nodes   proved ms   second ms nodes a second  ratio";
 
 fn reading_row(shape: &Shape, times: &Times) -> String {
     let records = shape.records();
@@ -83,7 +97,7 @@ fn reading_row(shape: &Shape, times: &Times) -> String {
 fn check_row(shape: &Shape, times: &Times) -> String {
     let nodes = times.answer.nodes;
     format!(
-        "{:<52} {:>7} {nodes:>5} {:>11.3} {:>11.3} {:>14.0} {:>6.1}",
+        "{:<52} {:>7} {nodes:>6} {:>11.3} {:>11.3} {:>14.0} {:>6.1}",
         shape.name,
         shape.records(),
         milliseconds(times.proved),

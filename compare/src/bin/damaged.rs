@@ -1,18 +1,19 @@
-//! `damaged [N]`: N cases for each of three questions, as they are and damaged, and large accepted proofs with their near
-//! misses, through the proved code, from buffers of exact length, so that a memory checker sees a read past the end.
+//! `damaged [N]`: N cases for each question (fewer for the derivation check), as they are and damaged, and large accepted
+//! proofs and derivations with their near misses, through the proved code, from buffers of exact length, so that a memory checker sees a read past the end.
 
 use compare::bytes::{cut, damage, small_case};
 use compare::threads::in_thread;
 use compare::{desk, Asked};
-use second::generate::large_proofs;
+use second::generate::large_cases;
 use second::generate::rng::Rng;
 
 const MOST_BYTES: usize = 2_048;
 const USUAL_COUNT: u64 = 300;
-/// So many cases to a large proof.
+/// So many cases to a large one, and to one of the derivation check, a call of which clears its tables.
 const PER_LARGE: u64 = 30;
-/// The derivation check is not among them: its frames are too large for the memory checker's view of a stack.
-const QUESTIONS: [Asked; 3] = [Asked::ReadProof, Asked::ReadDerivation, Asked::CheckProof];
+const PER_DERIVATION: u64 = 3;
+/// The questions of which large cases are asked.
+const LARGE: [Asked; 2] = [Asked::CheckProof, Asked::CheckDerivation];
 
 fn main() {
     let count = match std::env::args().nth(1) {
@@ -20,18 +21,30 @@ fn main() {
         None => USUAL_COUNT,
     };
     let done = in_thread(|| {
-        let small = QUESTIONS.map(|asked| (0..count).map(|seed| run(asked, seed)).sum::<u64>());
-        small.iter().sum::<u64>() + (0..count / PER_LARGE).map(run_large).sum::<u64>()
+        let small = Asked::ALL.map(|asked| total(cases(asked, count), |seed| run(asked, seed)));
+        let large = LARGE.map(|asked| total(count / PER_LARGE, |seed| run_large(asked, seed)));
+        small.iter().chain(&large).sum::<u64>()
     });
     println!("ok {done}");
 }
 
-/// A large accepted proof and near misses of it.
-fn run_large(seed: u64) -> u64 {
-    let cases = large_proofs(seed);
+fn cases(asked: Asked, count: u64) -> u64 {
+    match asked {
+        Asked::CheckDerivation => count / PER_DERIVATION,
+        _ => count,
+    }
+}
+
+fn total(count: u64, run: impl Fn(u64) -> u64) -> u64 {
+    (0..count).map(run).sum()
+}
+
+/// A large accepted proof or derivation and near misses of it.
+fn run_large(asked: Asked, seed: u64) -> u64 {
+    let cases = large_cases(asked.kind(), seed);
     cases
         .iter()
-        .for_each(|case| ask(Asked::CheckProof, &case.obligation, &case.second));
+        .for_each(|case| ask(asked, &case.obligation, &case.second));
     cases.len() as u64
 }
 

@@ -48,3 +48,10 @@ pub fn put_line(out: &mut [u8; 84], a: Answer) -> usize
     let file = put_number(out, at, a.file, b' ');
     put_number(out, file, a.refusal, b' ')
 }
+
+// Writes a line to standard output; a message where that fails.
+pub fn print(line: &[u8]) {
+    if !io::write_all(libc::STDOUT_FILENO, line) {
+        os::fail(b"standard output");
+    }
+}

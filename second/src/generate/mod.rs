@@ -21,7 +21,7 @@ pub mod world;
 pub mod writer;
 
 pub use limits::limit_cases;
-pub use near::large_proofs;
+pub use near::large_cases;
 
 use crate::reader::Second;
 use expect::Expect;

@@ -1,35 +1,36 @@
-//! Large accepted proofs, and near misses of each: the same proof with one thing changed.
+//! Large accepted proofs and derivations, and near misses of each: the same one with a single thing changed.
 
-use super::big::many_members;
+use super::big::{many_kept, many_members};
 use super::expect::Expect;
-use super::proofs::{draft, Draft, Shape};
+use super::proofs::{Draft, Shape};
 use super::rng::Rng;
 use super::tree_damage::TREE_DAMAGE;
 use super::world::World;
-use super::{write, Case, Plan};
+use super::{draft, write, Case, Plan};
 use crate::reader::Second;
 
-/// Near misses of each accepted proof.
+/// Near misses of each accepted one.
 const MISSES: usize = 7;
 
-/// A proof of hundreds of nodes that is accepted, and near misses of it. One in ten is of about 1,024 members,
-/// and refused where they are more.
-pub fn large_proofs(seed: u64) -> Vec<Case> {
+/// A proof or derivation of hundreds of nodes that is accepted, and near misses of it. One in ten is of about as many
+/// members as there may be, and refused where they are more.
+pub fn large_cases(kind: Second, seed: u64) -> Vec<Case> {
     let mut rng = Rng::new(!seed);
     let many = rng.chance(10);
     let mut shape = large_shape(&mut rng);
     loop {
         let mut world = World::new(Rng::new(rng.next()));
-        let (draft, expect) = match many {
-            true => many_members(&mut world),
-            false => (draft(&mut world, shape), Expect::Accepted),
+        let (draft, expect) = match (many, kind) {
+            (true, Second::Proof) => many_members(&mut world),
+            (true, Second::Derivation) => many_kept(&mut world),
+            (false, _) => (draft(kind, &mut world, shape), Expect::Accepted),
         };
-        if let Some(whole) = written(&mut rng, &world, &draft, expect, "large") {
+        if let Some(whole) = written(kind, &mut rng, &world, &draft, expect, "large") {
             let misses = match expect {
                 Expect::Accepted => MISSES,
                 _ => 0,
             };
-            let near = (0..misses).filter_map(|_| near_miss(&mut rng, &mut world, &draft));
+            let near = (0..misses).filter_map(|_| near_miss(kind, &mut rng, &mut world, &draft));
             return std::iter::once(whole).chain(near).collect();
         }
         shape = shape.smaller();
@@ -47,14 +48,22 @@ fn large_shape(rng: &mut Rng) -> Shape {
 }
 
 /// None if it came out too long, or the change can't be made.
-fn near_miss(rng: &mut Rng, world: &mut World, draft: &Draft) -> Option<Case> {
+fn near_miss(kind: Second, rng: &mut Rng, world: &mut World, draft: &Draft) -> Option<Case> {
     let (what, damage) = rng.pick(TREE_DAMAGE);
     let mut changed = draft.clone();
     let expect = damage(world, &mut changed)?;
-    written(rng, world, &changed, expect, &format!("large, {what}"))
+    written(
+        kind,
+        rng,
+        world,
+        &changed,
+        expect,
+        &format!("large, {what}"),
+    )
 }
 
 fn written(
+    kind: Second,
     rng: &mut Rng,
     world: &World,
     draft: &Draft,
@@ -65,7 +74,7 @@ fn written(
         repeat: *rng.pick(&[0, 0, 5]),
         ..Plan::default()
     };
-    let written = write(Second::Proof, rng, world, draft, plan)?;
+    let written = write(kind, rng, world, draft, plan)?;
     Some(Case {
         label: format!("{} {what}", expect.label()),
         obligation: written.obligation,
