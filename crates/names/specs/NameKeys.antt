@@ -1,20 +1,20 @@
 -- The key of a name: its name space, and its characters dealt out in turn to four numbers in base 256.
-use Prim.Native.Nat.{ℕ, zero, suc, _+_, _*_, _/_, _%_, _<_, _≤_}
+use Prim.Native.Nat.{ℕ, zero, suc, _+_, _*_, _/_, _%_, _<_}
 use mathlib.Core.Path.{_≡_, refl, sym, ap, _∙_}
 use mathlib.Core.List.{List, [], _∷_, _++_, append-nil}
 use mathlib.Core.Bool.{Bool, true, false, not, false≢true}
-use lib.Dec.{eqb, ltb, leb}
+use lib.Dec.{eqb, ltb}
 use lib.ListN.{length}
 use native.Mathlib.Omega.{arith}
-use borrow.Author.Tests.{eq-eqb, ne-eqb, eqb-true, eqb-false, lt-ltb, ltb-true, leb-true, not-true, not-false}
+use borrow.Author.Tests.{eq-eqb, ne-eqb, eqb-true, eqb-false, lt-ltb, ltb-true, not-true, not-false}
 use Rattle.reader.specs.Words.{Reader}
-use Rattle.reader.specs.Tests.{both, either, between, every, ifEq, ifLt}
+use Rattle.reader.specs.Tests.{both, either, between, every, ifEq}
 use Rattle.reader.specs.Names.{nameOf, nameSpace, isLetter, isDigitOrUnderscore, single, accented, characters, name}
 use Rattle.equality.specs.declared.Key.{Key}
 use Rattle.equality.specs.Keys.{key}
 use Rattle.names.specs.declared.Step.{Step}
 use Rattle.names.specs.Cursor.{restBytes, spelled}
-use Rattle.names.specs.Spelling.{spelled-none, spelled-more, spelled-next}
+use Rattle.names.specs.Spelling.{between-most, spell-two, spelled-none, spelled-more, spelled-next}
 use Rattle.names.specs.Symbols.{name-from}
 
 -- no key: of a record that is no symbol, and of a name with no characters, with one that is none, or with more than the numbers hold
@@ -49,13 +49,13 @@ spread-cons : (k : Key) (c : ℕ) (cs : List ℕ) → spread k (c ∷ cs) ≡ el
 unfolding spread
 spread-cons k c cs = refl
 
-pub spread-stop : (k : Key) (c : ℕ) (cs : List ℕ) → hasRoom k c ≡ false → noKey ≡ spread k (c ∷ cs)
+spread-stop : (k : Key) (c : ℕ) (cs : List ℕ) → hasRoom k c ≡ false → noKey ≡ spread k (c ∷ cs)
 spread-stop k c cs h = rw spread-cons (simp h)
 
 pub spread-go : (k : Key) (c : ℕ) (cs : List ℕ) → hasRoom k c ≡ true → spread k (c ∷ cs) ≡ spread (dealt k c) cs
 spread-go k c cs h = rw spread-cons (simp h)
 
-pub spread-none : (k : Key) → k .third ≡ 0 → noKey ≡ spread k []
+spread-none : (k : Key) → k .third ≡ 0 → noKey ≡ spread k []
 unfolding spread ifEq
 spread-none k h = simp (spread, ifEq, eq-eqb (k .third) 0 h)
 
@@ -168,14 +168,6 @@ spread-kind k (c ∷ cs) p = go (hasRoom k c) refl (λ q. spread-kind (dealt k c
     go false t rest = absurd (omega (arith, ap (λ (x : Key). x .kind) (spread-stop k c cs t)))
 
 -- every character is below 256
-between-most : (low high a : ℕ) → between low high a ≡ true → a ≤ high
-unfolding between ifLt
-between-most low high a h = go (ltb a low) h
-  where
-    go : (z : Bool) → elim z as (λ y. Bool) [ true ↦ false | false ↦ leb a high ] ≡ true → a ≤ high
-    go true q = absurd (false≢true q)
-    go false q = leb-true a high q
-
 either-in : (a b : Bool) (P : Type 0) → (a ≡ true → P) → (b ≡ true → P) → either a b ≡ true → P
 unfolding either
 either-in true b P f g h = f refl
@@ -208,16 +200,11 @@ small-more : (c : ℕ) (cs : List ℕ) → c < 256 → every isSmall cs ≡ true
 unfolding isSmall
 small-more c cs p h = rw small-cons (simp (isSmall, lt-ltb c 256 p, h))
 
-characters-two : (b c : ℕ) (bs : List ℕ) →
-    characters (b ∷ c ∷ bs) ≡ elim (eqb b 195) [ true ↦ accented c ∷ characters bs | false ↦ single b ∷ characters (c ∷ bs) ]
-unfolding characters
-characters-two b c bs = refl
-
-pub characters-small : (bs : List ℕ) → every isSmall (characters bs) ≡ true
+characters-small : (bs : List ℕ) → every isSmall (characters bs) ≡ true
 unfolding characters every
 characters-small [] = refl
 characters-small (b ∷ []) = small-more (single b) [] (single-small b) refl
-characters-small (b ∷ c ∷ bs) = rw characters-two (go (eqb b 195) (characters-small bs) (characters-small (c ∷ bs)))
+characters-small (b ∷ c ∷ bs) = rw spell-two (go (eqb b 195) (characters-small bs) (characters-small (c ∷ bs)))
   where
     go : (x : Bool) → every isSmall (characters bs) ≡ true → every isSmall (characters (c ∷ bs)) ≡ true →
         every isSmall (elim x as (λ z. List ℕ) [ true ↦ accented c ∷ characters bs | false ↦ single b ∷ characters (c ∷ bs) ]) ≡ true

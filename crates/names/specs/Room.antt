@@ -1,12 +1,12 @@
 -- A name of at most 32 characters has a key.
 use Prim.Native.Nat.{ℕ, zero, suc, _+_, _*_, _/_, _<_, _≤_}
-use mathlib.Core.Path.{_≡_, refl, sym, ap, _∙_}
+use mathlib.Core.Path.{_≡_, refl}
 use mathlib.Core.List.{List, [], _∷_}
-use mathlib.Core.Bool.{Bool, true, false, not, false≢true}
-use lib.Dec.{eqb, leb}
+use mathlib.Core.Bool.{Bool, true, false, false≢true}
+use lib.Dec.{eqb}
 use lib.ListN.{length}
 use native.Mathlib.Omega.{arith}
-use borrow.Author.Tests.{ne-eqb, eqb-true, eqb-false, lt-ltb, leb-true}
+use borrow.Author.Tests.{ne-eqb, lt-ltb, leb-true}
 use Rattle.reader.specs.Words.{Reader}
 use Rattle.reader.specs.Tests.{both, every, ifEq}
 use Rattle.reader.specs.Chains.{linked}
@@ -129,7 +129,7 @@ name-most rd i =
     let bytes = nameBytes rd (linked rd (nameOf rd i)) in
     omega (arith, characters-most bytes, bytes-most rd (linked rd (nameOf rd i)))
 
--- what names a record is a symbol
+-- a record that names one is a symbol
 named-space : (rd : Reader) (i : ℕ) → (nameOf rd i ≡ 0 → ⊥) → 0 < nameSpace (rd i 0)
 unfolding nameOf nameSpace ifEq
 named-space rd i = go (eqb (rd i 0) 3) (eqb (rd i 0) 7) (eqb (rd i 0) 8)
@@ -142,7 +142,8 @@ named-space rd i = go (eqb (rd i 0) 3) (eqb (rd i 0) 7) (eqb (rd i 0) 8)
     go false false true h = omega arith
     go false false false h = absurd (h refl)
 
-both-first : (a b : Bool) → both a b ≡ true → a ≡ true
+-- both tests hold
+pub both-first : (a b : Bool) → both a b ≡ true → a ≡ true
 unfolding both
 both-first true b h = refl
 both-first false b h = h
