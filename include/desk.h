@@ -28,7 +28,7 @@ uint64_t desk_check_proof(const uint8_t *obligation, size_t obligation_length, c
  * stack: call it on a stack of at least 24 MiB. */
 uint64_t desk_check_derivation(const uint8_t *obligation, size_t obligation_length, const uint8_t *derivation, size_t derivation_length);
 
-/* Refusals 1 to 12 of an obligation and a proof, or a derivation; 0 where none applies. In libreading.a. */
+/* Refusals 1 to 12 of an obligation and a proof, or a derivation; 0 where none applies. In libreading.a. Call the second on a stack of at least 6 MiB. */
 uint64_t desk_read_proof(const uint8_t *obligation, size_t obligation_length, const uint8_t *proof, size_t proof_length);
 uint64_t desk_read_derivation(const uint8_t *obligation, size_t obligation_length, const uint8_t *derivation, size_t derivation_length);
 

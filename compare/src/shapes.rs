@@ -411,6 +411,24 @@ pub fn long_names(kind: Second, most: u32) -> Shape {
     sheet.close(&format!("(c) {symbols} names twice, 24 bytes alike"))
 }
 
+/// Constants whose names have 32 bytes and share the last 28 of them, so that their keys differ in the highest bits only.
+pub fn shared_tails(kind: Second, most: u32) -> Shape {
+    let mut sheet = Sheet::new(kind);
+    sheet.end_obligation();
+    let (given, end) = (sheet.given, sheet.end(1));
+    let tail = sheet.w.name("a".repeat(24).as_bytes());
+    let letters = 52;
+    let mut symbols = 0;
+    while symbols < most && sheet.is_before(end - 2) {
+        let letter = |place| LETTERS[(symbols / u32::pow(letters, place) % letters) as usize];
+        let word = u32::from_le_bytes([letter(0), letter(1), letter(2), letter(3)]);
+        let name = sheet.w.push(NAME, word, 0x6161_6161, tail);
+        sheet.w.push(CONSTANT, given, name, 0);
+        symbols += 1;
+    }
+    sheet.close(&format!("(c) {symbols} names, the last 28 bytes alike"))
+}
+
 /// Many distinct names, then the first one again.
 pub fn name_taken(kind: Second, most: u32) -> Shape {
     let mut sheet = Sheet::new(kind);
@@ -609,6 +627,7 @@ pub fn shapes(kind: Second, symbols: u32) -> Vec<Shape> {
     list.extend([false, true].map(|nodes| shared_premises(kind, nodes)));
     list.push(names(kind, symbols));
     list.push(long_names(kind, symbols / 2));
+    list.push(shared_tails(kind, symbols));
     list.push(name_taken(kind, symbols));
     list.sort_by(|x, y| x.name.cmp(&y.name));
     list

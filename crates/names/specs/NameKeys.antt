@@ -1,20 +1,20 @@
 -- The key of a name: its name space, and its characters dealt out in turn to four numbers in base 256.
-use Prim.Native.Nat.{ℕ, zero, suc, _+_, _*_, _/_, _%_, _<_, _≤_}
+use Prim.Native.Nat.{ℕ, zero, suc, _+_, _*_, _/_, _%_, _<_}
 use mathlib.Core.Path.{_≡_, refl, sym, ap, _∙_}
 use mathlib.Core.List.{List, [], _∷_, _++_, append-nil}
 use mathlib.Core.Bool.{Bool, true, false, not, false≢true}
-use lib.Dec.{eqb, ltb, leb}
+use lib.Dec.{eqb, ltb}
 use lib.ListN.{length}
 use native.Mathlib.Omega.{arith}
-use borrow.Author.Tests.{eq-eqb, ne-eqb, eqb-true, eqb-false, lt-ltb, ltb-true, leb-true, not-true, not-false}
+use borrow.Author.Tests.{eq-eqb, ne-eqb, eqb-true, eqb-false, lt-ltb, ltb-true, not-true, not-false}
 use Rattle.reader.specs.Words.{Reader}
-use Rattle.reader.specs.Tests.{both, either, between, every, ifEq, ifLt}
+use Rattle.reader.specs.Tests.{both, either, between, every, ifEq}
 use Rattle.reader.specs.Names.{nameOf, nameSpace, isLetter, isDigitOrUnderscore, single, accented, characters, name}
 use Rattle.equality.specs.declared.Key.{Key}
 use Rattle.equality.specs.Keys.{key}
 use Rattle.names.specs.declared.Step.{Step}
 use Rattle.names.specs.Cursor.{restBytes, spelled}
-use Rattle.names.specs.Spelling.{spelled-none, spelled-more, spelled-next}
+use Rattle.names.specs.Spelling.{between-most, spell-two, spelled-none, spelled-more, spelled-next}
 use Rattle.names.specs.Symbols.{name-from}
 
 -- no key: of a record that is no symbol, and of a name with no characters, with one that is none, or with more than the numbers hold
@@ -33,9 +33,17 @@ hasRoom k c = both (not (eqb c 0)) (ltb (k .atom) 72057594037927936)
 unfoldable pub dealt : Key → ℕ → Key
 dealt k c = key (k .kind) (k .first) (k .second) (k .third) (k .atom * 256 + c)
 
--- the key with all the characters dealt
+-- a number that depends on all four, so that names which are alike in most characters part early in the search
+unfoldable pub mixture : Key → ℕ
+mixture k = k .atom % 65521 * 31 + k .first % 65521 * 1009 + k .second % 65521 * 4093 + k .third % 65521 * 16381
+
+-- the key with that number beside the name space
+unfoldable pub mixed : Key → Key
+mixed k = key (k .kind % 4 + mixture k) (k .atom) (k .first) (k .second) (k .third)
+
+-- the key with all the characters dealt, mixed
 unfoldable pub spread : Key → List ℕ → Key
-spread k [] = ifEq (k .third) 0 noKey k
+spread k [] = ifEq (k .third) 0 noKey (mixed k)
 spread k (c ∷ cs) = elim (hasRoom k c) [ true ↦ spread (dealt k c) cs | false ↦ noKey ]
 
 -- the key of symbol i
@@ -49,17 +57,17 @@ spread-cons : (k : Key) (c : ℕ) (cs : List ℕ) → spread k (c ∷ cs) ≡ el
 unfolding spread
 spread-cons k c cs = refl
 
-pub spread-stop : (k : Key) (c : ℕ) (cs : List ℕ) → hasRoom k c ≡ false → noKey ≡ spread k (c ∷ cs)
+spread-stop : (k : Key) (c : ℕ) (cs : List ℕ) → hasRoom k c ≡ false → noKey ≡ spread k (c ∷ cs)
 spread-stop k c cs h = rw spread-cons (simp h)
 
 pub spread-go : (k : Key) (c : ℕ) (cs : List ℕ) → hasRoom k c ≡ true → spread k (c ∷ cs) ≡ spread (dealt k c) cs
 spread-go k c cs h = rw spread-cons (simp h)
 
-pub spread-none : (k : Key) → k .third ≡ 0 → noKey ≡ spread k []
+spread-none : (k : Key) → k .third ≡ 0 → noKey ≡ spread k []
 unfolding spread ifEq
 spread-none k h = simp (spread, ifEq, eq-eqb (k .third) 0 h)
 
-pub spread-all : (k : Key) → (k .third ≡ 0 → ⊥) → k ≡ spread k []
+pub spread-all : (k : Key) → (k .third ≡ 0 → ⊥) → mixed k ≡ spread k []
 unfolding spread ifEq
 spread-all k h = simp (spread, ifEq, ne-eqb (k .third) 0 h)
 
@@ -118,6 +126,23 @@ unfolding undealt
 undealt-start zero space cs = refl
 undealt-start (suc n) space cs = refl
 
+-- whatever the name space
+undealt-kind : (n x : ℕ) (k : Key) (cs : List ℕ) → undealt n (key x (k .atom) (k .first) (k .second) (k .third)) cs ≡ undealt n k cs
+unfolding undealt
+undealt-kind zero x k cs = refl
+undealt-kind (suc n) x k cs = go (eqb (k .third) 0) (undealt-kind n x (key (k .kind) (k .third / 256) (k .atom) (k .first) (k .second)) (k .third % 256 ∷ cs))
+  where
+    go : (b : Bool) →
+        undealt n (key x (k .third / 256) (k .atom) (k .first) (k .second)) (k .third % 256 ∷ cs) ≡ undealt n (key (k .kind) (k .third / 256) (k .atom) (k .first) (k .second)) (k .third % 256 ∷ cs) →
+        _≡_ {A = List ℕ} (elim b as (λ y. List ℕ) [ true ↦ cs | false ↦ undealt n (key x (k .third / 256) (k .atom) (k .first) (k .second)) (k .third % 256 ∷ cs) ])
+        (elim b as (λ y. List ℕ) [ true ↦ cs | false ↦ undealt n (key (k .kind) (k .third / 256) (k .atom) (k .first) (k .second)) (k .third % 256 ∷ cs) ])
+    go true e = refl
+    go false e = e
+
+undealt-mixed : (n : ℕ) (k : Key) (cs : List ℕ) → undealt n (mixed k) cs ≡ undealt n k cs
+unfolding mixed
+undealt-mixed n k cs = undealt-kind n (k .kind % 4 + mixture k) k cs
+
 -- a key that is one tells all characters
 undealt-spread : (n most : ℕ) (k : Key) (cs ds : List ℕ) → most ≡ length cs + n → every isSmall cs ≡ true → 0 < (spread k cs) .kind →
     undealt most (spread k cs) ds ≡ undealt n k (cs ++ ds)
@@ -125,7 +150,7 @@ undealt-spread n most k [] ds e small p = go (eqb (k .third) 0) refl
   where
     go : (b : Bool) → eqb (k .third) 0 ≡ b → undealt most (spread k []) ds ≡ undealt n k ds
     go true t = absurd (omega (arith, ap (λ (x : Key). x .kind) (spread-none k (eqb-true (k .third) 0 t))))
-    go false t = let same : most ≡ n = omega arith in rw (same, ← spread-all k (eqb-false (k .third) 0 t))
+    go false t = let same : most ≡ n = omega arith in rw (same, ← spread-all k (eqb-false (k .third) 0 t)) (undealt-mixed n k ds)
 undealt-spread n most k (c ∷ cs) ds e small p =
     go (hasRoom k c) refl (λ q. undealt-spread (suc n) most (dealt k c) cs ds (omega arith) (small-rest c cs small) q)
   where
@@ -151,31 +176,24 @@ spread-names space other cs ds small-c small-d p e =
     sym one ∙ ap (λ (k : Key). undealt most k []) e ∙ two
 
 -- a key that is one has its name space
-spread-kind : (k : Key) (cs : List ℕ) → 0 < (spread k cs) .kind → (spread k cs) .kind ≡ k .kind
-unfolding dealt
+spread-kind : (k : Key) (cs : List ℕ) → 0 < (spread k cs) .kind → (spread k cs) .kind ≡ k .kind % 4 + mixture (spread k cs)
+unfolding dealt mixed mixture
 spread-kind k [] p = go (eqb (k .third) 0) refl
   where
-    go : (b : Bool) → eqb (k .third) 0 ≡ b → (spread k []) .kind ≡ k .kind
+    go : (b : Bool) → eqb (k .third) 0 ≡ b → (spread k []) .kind ≡ k .kind % 4 + mixture (spread k [])
     go true t = absurd (omega (arith, ap (λ (x : Key). x .kind) (spread-none k (eqb-true (k .third) 0 t))))
-    go false t = sym (ap (λ (x : Key). x .kind) (spread-all k (eqb-false (k .third) 0 t)))
+    go false t = rw (← spread-all k (eqb-false (k .third) 0 t))
 spread-kind k (c ∷ cs) p = go (hasRoom k c) refl (λ q. spread-kind (dealt k c) cs q)
   where
-    go : (b : Bool) → hasRoom k c ≡ b → (0 < (spread (dealt k c) cs) .kind → (spread (dealt k c) cs) .kind ≡ k .kind) → (spread k (c ∷ cs)) .kind ≡ k .kind
+    go : (b : Bool) → hasRoom k c ≡ b → (0 < (spread (dealt k c) cs) .kind → (spread (dealt k c) cs) .kind ≡ k .kind % 4 + mixture (spread (dealt k c) cs)) →
+        (spread k (c ∷ cs)) .kind ≡ k .kind % 4 + mixture (spread k (c ∷ cs))
     go true t rest =
         let is = spread-go k c cs t in
         let more : 0 < (spread (dealt k c) cs) .kind = omega (arith, ap (λ (x : Key). x .kind) is) in
-        ap (λ (x : Key). x .kind) is ∙ rest more
+        rw is (rest more)
     go false t rest = absurd (omega (arith, ap (λ (x : Key). x .kind) (spread-stop k c cs t)))
 
 -- every character is below 256
-between-most : (low high a : ℕ) → between low high a ≡ true → a ≤ high
-unfolding between ifLt
-between-most low high a h = go (ltb a low) h
-  where
-    go : (z : Bool) → elim z as (λ y. Bool) [ true ↦ false | false ↦ leb a high ] ≡ true → a ≤ high
-    go true q = absurd (false≢true q)
-    go false q = leb-true a high q
-
 either-in : (a b : Bool) (P : Type 0) → (a ≡ true → P) → (b ≡ true → P) → either a b ≡ true → P
 unfolding either
 either-in true b P f g h = f refl
@@ -208,16 +226,11 @@ small-more : (c : ℕ) (cs : List ℕ) → c < 256 → every isSmall cs ≡ true
 unfolding isSmall
 small-more c cs p h = rw small-cons (simp (isSmall, lt-ltb c 256 p, h))
 
-characters-two : (b c : ℕ) (bs : List ℕ) →
-    characters (b ∷ c ∷ bs) ≡ elim (eqb b 195) [ true ↦ accented c ∷ characters bs | false ↦ single b ∷ characters (c ∷ bs) ]
-unfolding characters
-characters-two b c bs = refl
-
-pub characters-small : (bs : List ℕ) → every isSmall (characters bs) ≡ true
+characters-small : (bs : List ℕ) → every isSmall (characters bs) ≡ true
 unfolding characters every
 characters-small [] = refl
 characters-small (b ∷ []) = small-more (single b) [] (single-small b) refl
-characters-small (b ∷ c ∷ bs) = rw characters-two (go (eqb b 195) (characters-small bs) (characters-small (c ∷ bs)))
+characters-small (b ∷ c ∷ bs) = rw spell-two (go (eqb b 195) (characters-small bs) (characters-small (c ∷ bs)))
   where
     go : (x : Bool) → every isSmall (characters bs) ≡ true → every isSmall (characters (c ∷ bs)) ≡ true →
         every isSmall (elim x as (λ z. List ℕ) [ true ↦ accented c ∷ characters bs | false ↦ single b ∷ characters (c ∷ bs) ]) ≡ true
@@ -228,12 +241,24 @@ pub name-small : (rd : Reader) (i : ℕ) → every isSmall (name rd i) ≡ true
 unfolding name
 name-small rd i = characters-small _
 
+space-small : (k : ℕ) → nameSpace k < 4
+unfolding nameSpace ifEq
+space-small k = go (eqb k 3) (eqb k 7) (eqb k 8)
+  where
+    go : (a b c : Bool) → elim a as (λ x. ℕ) [ true ↦ 1 | false ↦ elim b as (λ x. ℕ) [ true ↦ 2 | false ↦ elim c as (λ x. ℕ) [ true ↦ 2 | false ↦ 0 ] ] ] < 4
+    go true b c = omega arith
+    go false true c = omega arith
+    go false false true = omega arith
+    go false false false = omega arith
+
 -- keys that are equal, of which one is one: the same name in the same name space
 pub key-space : (rd : Reader) (i j : ℕ) → 0 < (nameKey rd i) .kind → nameKey rd i ≡ nameKey rd j → nameSpace (rd i 0) ≡ nameSpace (rd j 0)
 unfolding nameKey
 key-space rd i j p e =
     let k = ap (λ (x : Key). x .kind) e in
-    sym (spread-kind _ (name rd i) p) ∙ k ∙ spread-kind _ (name rd j) (omega (arith, k))
+    let one = spread-kind (spaceKey (nameSpace (rd i 0))) (name rd i) p in
+    let two = spread-kind (spaceKey (nameSpace (rd j 0))) (name rd j) (omega (arith, k)) in
+    omega (arith, one, two, k, ap mixture e, space-small (rd i 0), space-small (rd j 0))
 
 pub key-name : (rd : Reader) (i j : ℕ) → 0 < (nameKey rd i) .kind → nameKey rd i ≡ nameKey rd j → name rd i ≡ name rd j
 unfolding nameKey
@@ -271,5 +296,5 @@ module _ (rd : Reader) (i : ℕ) where
       pub key-none : k .third ≡ 0 → (r : Key) → r ≡ spaceKey 0 → r ≡ nameKey rd i
       key-none h r e = e ∙ spread-none k h ∙ sym (inv ∙ ap (spread k) (spelled-none rd s end))
 
-      pub key-all : (k .third ≡ 0 → ⊥) → k ≡ nameKey rd i
-      key-all h = spread-all k h ∙ sym (inv ∙ ap (spread k) (spelled-none rd s end))
+      pub key-all : (k .third ≡ 0 → ⊥) → (r : Key) → r ≡ mixed k → r ≡ nameKey rd i
+      key-all h r e = e ∙ spread-all k h ∙ sym (inv ∙ ap (spread k) (spelled-none rd s end))

@@ -1,12 +1,12 @@
 -- A name of at most 32 characters has a key.
-use Prim.Native.Nat.{ℕ, zero, suc, _+_, _*_, _/_, _<_, _≤_}
-use mathlib.Core.Path.{_≡_, refl, sym, ap, _∙_}
+use Prim.Native.Nat.{ℕ, zero, suc, _+_, _*_, _/_, _%_, _<_, _≤_}
+use mathlib.Core.Path.{_≡_, refl}
 use mathlib.Core.List.{List, [], _∷_}
-use mathlib.Core.Bool.{Bool, true, false, not, false≢true}
-use lib.Dec.{eqb, leb}
+use mathlib.Core.Bool.{Bool, true, false, false≢true}
+use lib.Dec.{eqb}
 use lib.ListN.{length}
 use native.Mathlib.Omega.{arith}
-use borrow.Author.Tests.{ne-eqb, eqb-true, eqb-false, lt-ltb, leb-true}
+use borrow.Author.Tests.{ne-eqb, lt-ltb, leb-true}
 use Rattle.reader.specs.Words.{Reader}
 use Rattle.reader.specs.Tests.{both, every, ifEq}
 use Rattle.reader.specs.Chains.{linked}
@@ -17,7 +17,7 @@ use Rattle.equality.specs.declared.Key.{Key}
 use Rattle.names.specs.Cursor.{isSpelled}
 use Rattle.names.specs.Laws.{bytes-most}
 use Rattle.names.specs.Spelling.{is-spelled-cons, spell-two}
-use Rattle.names.specs.NameKeys.{spaceKey, hasRoom, dealt, spread, nameKey, isSmall, spread-go, spread-all, small-first, small-rest, name-small}
+use Rattle.names.specs.NameKeys.{spaceKey, hasRoom, dealt, mixed, spread, nameKey, isSmall, spread-go, spread-all, small-first, small-rest, name-small}
 
 -- the numbers that have room for n digits more
 bound : ℕ → ℕ
@@ -64,11 +64,12 @@ unfolding hasRoom both
 deal k c cs p h = spread-go k c cs (simp (hasRoom, both, ne-eqb c 0 (first-character c cs h .some), lt-ltb (k .atom) 72057594037927936 p))
 
 -- none is left
-deal-none : (k : Key) → 0 < k .third → 0 < k .kind → 0 < (spread k []) .kind
-deal-none k p q = rw (← spread-all k (omega arith)) q
+deal-none : (k : Key) → 0 < k .third → 0 < k .kind % 4 → 0 < (spread k []) .kind
+unfolding mixed
+deal-none k p q = rw (← spread-all k (omega arith)) (omega arith)
 
 -- four characters at a time
-deal-all : (n : ℕ) (k : Key) (cs : List ℕ) → Below (bound n) k → Characters cs → length cs ≤ 4 * n → 0 < k .third + length cs → 0 < k .kind → 0 < (spread k cs) .kind
+deal-all : (n : ℕ) (k : Key) (cs : List ℕ) → Below (bound n) k → Characters cs → length cs ≤ 4 * n → 0 < k .third + length cs → 0 < k .kind % 4 → 0 < (spread k cs) .kind
 unfolding bound dealt
 deal-all n k [] room h few some p = deal-none k (omega arith) p
 deal-all zero k (c ∷ cs) room h few some p = absurd (omega arith)
@@ -129,20 +130,21 @@ name-most rd i =
     let bytes = nameBytes rd (linked rd (nameOf rd i)) in
     omega (arith, characters-most bytes, bytes-most rd (linked rd (nameOf rd i)))
 
--- what names a record is a symbol
-named-space : (rd : Reader) (i : ℕ) → (nameOf rd i ≡ 0 → ⊥) → 0 < nameSpace (rd i 0)
+-- a record that names one is a symbol
+named-space : (rd : Reader) (i : ℕ) → (nameOf rd i ≡ 0 → ⊥) → 0 < nameSpace (rd i 0) % 4
 unfolding nameOf nameSpace ifEq
 named-space rd i = go (eqb (rd i 0) 3) (eqb (rd i 0) 7) (eqb (rd i 0) 8)
   where
     go : (a b c : Bool) →
         (_≡_ {A = ℕ} (elim a as (λ x. ℕ) [ true ↦ rd i 1 | false ↦ elim b as (λ x. ℕ) [ true ↦ rd i 2 | false ↦ elim c as (λ x. ℕ) [ true ↦ rd i 3 | false ↦ 0 ] ] ]) 0 → ⊥) →
-        0 < elim a as (λ x. ℕ) [ true ↦ 1 | false ↦ elim b as (λ x. ℕ) [ true ↦ 2 | false ↦ elim c as (λ x. ℕ) [ true ↦ 2 | false ↦ 0 ] ] ]
+        0 < (elim a as (λ x. ℕ) [ true ↦ 1 | false ↦ elim b as (λ x. ℕ) [ true ↦ 2 | false ↦ elim c as (λ x. ℕ) [ true ↦ 2 | false ↦ 0 ] ] ]) % 4
     go true b c h = omega arith
     go false true c h = omega arith
     go false false true h = omega arith
     go false false false h = absurd (h refl)
 
-both-first : (a b : Bool) → both a b ≡ true → a ≡ true
+-- both tests hold
+pub both-first : (a b : Bool) → both a b ≡ true → a ≡ true
 unfolding both
 both-first true b h = refl
 both-first false b h = h

@@ -25,6 +25,14 @@ either-go a b r s e h q = simp (either, ← e, h) q
 
 pub ruleset eithers = (either-stop, either-go)
 
+pub between-most : (low high a : ℕ) → between low high a ≡ true → a ≤ high
+unfolding between ifLt
+between-most low high a h = go (ltb a low) h
+  where
+    go : (z : Bool) → elim z as (λ y. Bool) [ true ↦ false | false ↦ leb a high ] ≡ true → a ≤ high
+    go true q = absurd (false≢true q)
+    go false q = leb-true a high q
+
 -- The ways out of `single_of`.
 module _ (b : ℕ) (x : Bool) (ex : x ≡ isLetter b) where
   pub single-letter : x ≡ true → b ≡ single b
@@ -48,12 +56,7 @@ module _ (b : ℕ) (x : Bool) (ex : x ≡ between 128 191 b) where
 
   module _ (yes : not x ≡ false) where
     pub accented-below : b ≤ 191
-    unfolding between ifLt
-    accented-below = go (ltb b 128) (sym ex ∙ not-false x yes)
-      where
-        go : (z : Bool) → elim z as (λ y. Bool) [ true ↦ false | false ↦ leb b 191 ] ≡ true → b ≤ 191
-        go true h = absurd (false≢true h)
-        go false h = leb-true b 191 h
+    accented-below = between-most 128 191 b (sym ex ∙ not-false x yes)
 
     pub accented-times : b ≡ 151 → 0 ≡ accented b
     unfolding accented both either

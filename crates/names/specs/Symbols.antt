@@ -1,6 +1,6 @@
 -- Names of symbols: the definitions that loops over records follow, and the ways out of the code.
-use Prim.Native.Nat.{ℕ, zero, suc, _-_}
-use mathlib.Core.Path.{_≡_, refl, sym, ap, _∙_}
+use Prim.Native.Nat.{ℕ}
+use mathlib.Core.Path.{_≡_, refl, _∙_}
 use mathlib.Core.List.{List, _∷_}
 use mathlib.Core.Bool.{Bool, true, false, not}
 use lib.Dec.{eqb, leb}
@@ -12,8 +12,8 @@ use Rattle.reader.specs.Tests.{both, every}
 use Rattle.reader.specs.Trees.{lower}
 use Rattle.reader.specs.Chains.{linked}
 use Rattle.reader.specs.Laws.{linked-zero, linked-step}
-use Rattle.reader.specs.Names.{nameOf, nameSpace, characters, name, hasBytes, startsWell, isName, sameName, takenBelow, nameTaken}
-use Rattle.reader.specs.Records.{nameFits, nameStands, nameIsFree}
+use Rattle.reader.specs.Names.{nameOf, characters, name, hasBytes, startsWell, isName}
+use Rattle.reader.specs.Records.{nameFits, nameStands}
 use Rattle.names.specs.Cursor.{restBytes, isSpelled}
 use Rattle.names.specs.Laws.{rest-start}
 

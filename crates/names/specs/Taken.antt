@@ -1,5 +1,5 @@
 -- The symbols before a record, in slots by the keys of their names: a name is taken exactly when its key is there.
-use Prim.Native.Nat.{ℕ, zero, suc, _+_, _-_, _*_, _<_, _≤_}
+use Prim.Native.Nat.{ℕ, zero, suc, _+_, _-_, _<_, _≤_}
 use mathlib.Core.Path.{_≡_, refl, sym, ap, _∙_}
 use mathlib.Core.List.{List, [], _∷_}
 use mathlib.Core.Bool.{Bool, true, false, not, false≢true}
@@ -124,7 +124,7 @@ module _ (rd : Reader) (space : ℕ) (cs : List ℕ) where
       go false e k f = let t = f k in record { at = t .at; some = t .some; most = omega (arith, t .most); spaced = t .spaced; named = t .named }
 
 -- record i has no key: it stays out
-pub looked-out : (rd : Reader) (slots : List ℕ) (i : ℕ) → (nameKey rd i) .kind ≡ 0 → Names rd slots i → Looked rd i i slots
+looked-out : (rd : Reader) (slots : List ℕ) (i : ℕ) → (nameKey rd i) .kind ≡ 0 → Names rd slots i → Looked rd i i slots
 looked-out rd slots i none names = record {
   names = record { placed = placed-next (nameKey rd) slots i (names .placed); own = names .own; all = λ x p q h. go x p q h (ltb x i) refl };
   out = λ e. refl;
@@ -185,7 +185,7 @@ module _ (rd : Reader) (before after : List ℕ) (i r : ℕ) (p : 0 < i) (has : 
       go true l = absurd (false≢true (sym t ∙ taken-old n e (ltb-true r i l)))
       go false l = omega (arith, put .most, ltb-false r i l)
 
-  pub looked-up : Looked rd i r after
+  looked-up : Looked rd i r after
   looked-up = record {
     names = record { placed = put .placed; own = own-more; all = all-more };
     out = λ e. absurd (omega arith);

@@ -7,7 +7,7 @@ ghost use mathlib.Core.Path.{_≡_};
 ghost use mathlib.Core.Bool.{true};
 ghost use Prim.Native.Nat.{_<_};
 ghost use Rattle.reader.specs.Words.{word};
-ghost use Rattle.names.specs.NameKeys.{spaceKey, hasRoom, dealt, nameKey};
+ghost use Rattle.names.specs.NameKeys.{spaceKey, hasRoom, dealt, mixed, nameKey};
 
 // The key of no characters yet; name space 0 for no key.
 fn space_key(space: usize) -> Key
@@ -46,6 +46,23 @@ fn dealt(k: Key, c: usize) -> Key
     }
 }
 
+// The key with a number beside the name space that depends on all four.
+fn mixed(k: Key) -> Key
+    ensures { λ r. ⌜ r ≡ mixed k ⌝ }
+{
+    Key {
+        kind: k.kind % 4
+            + (k.atom % 65521 * 31
+                + k.first % 65521 * 1009
+                + k.second % 65521 * 4093
+                + k.third % 65521 * 16381),
+        atom: k.atom,
+        first: k.first,
+        second: k.second,
+        third: k.third,
+    }
+}
+
 // The key of symbol i.
 pub fn key_of(obligation: &[u8], second: &[u8], m: usize, i: usize) -> Key
     ensures { λ r. ⌜ r ≡ nameKey (word (now (obligation .entry)) (now (second .entry)) m) i ⌝ }
@@ -63,5 +80,5 @@ pub fn key_of(obligation: &[u8], second: &[u8], m: usize, i: usize) -> Key
     if key.third == 0 {
         return space_key(0);
     }
-    key
+    mixed(key)
 }

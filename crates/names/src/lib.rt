@@ -30,13 +30,8 @@ pub struct Step {
 pub fn name_fits(obligation: &[u8], second: &[u8], m: usize, i: usize) -> bool
     ensures { λ r. ⌜ r ≡ nameFits (word (now (obligation .entry)) (now (second .entry)) m) i ⌝ }
 {
-    chains::at_most(
-        obligation,
-        second,
-        m,
-        symbols::name_of(obligation, second, m, i),
-        4,
-    )
+    let first = symbols::name_of(obligation, second, m, i);
+    chains::at_most(obligation, second, m, first, 4)
 }
 
 // Is name record i not empty?

@@ -4,19 +4,15 @@ use mathlib.Core.Path.{_≡_, refl, sym, _∙_}
 use mathlib.Core.Bool.{Bool, true, false}
 use native.Mathlib.Omega.{arith}
 use Rattle.reader.specs.Words.{Reader}
-use Rattle.reader.specs.Tests.{both, demand}
+use Rattle.reader.specs.Tests.{demand}
 use Rattle.reader.specs.Records.{kindFits, rangesFit, referencesFit, nameFits, chainsFit, chainsOf, wordsFault}
+use Rattle.names.specs.Room.{both-first}
 
 -- no refusal: the test holds, and the rest has none
 demand-in : (a : Bool) (n rest : ℕ) → demand a n rest ≡ 0 → (n ≡ 0 → ⊥) → (a ≡ true) × (rest ≡ 0)
 unfolding demand
 demand-in true n rest h p = (refl, h)
 demand-in false n rest h p = absurd (p h)
-
-both-first : (a b : Bool) → both a b ≡ true → a ≡ true
-unfolding both
-both-first true b h = refl
-both-first false b h = h
 
 -- a record without refusals 3 to 6 has a name of at most 4 records
 pub words-name : (mode : ℕ) (rd : Reader) (i w : ℕ) → w ≡ wordsFault mode rd i → w ≡ 0 → nameFits rd i ≡ true

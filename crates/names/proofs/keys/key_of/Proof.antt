@@ -51,5 +51,7 @@ key-of-spec = tie.close (tie.spec
     (λ c κs. search needs)
     -- returns-2: space-key3; 1 if2; 2 struct-known; 3 loop-test; 4 loop; 5 next-character; 6 name-of; 7 space-key; 8 space-of; 9 word-at; 12 args
     (λ c. search key-none)
-    -- returns-3: if2; 1 struct-known; 2 loop-test; 3 loop; 4 next-character; 5 name-of; 6 space-key; 7 space-of; 8 word-at; 11 args
+    -- mixed-requires: if2; 1 struct-known; 2 loop-test; 3 loop; 4 next-character; 5 name-of; 6 space-key; 7 space-of; 8 word-at; 11 args
+    (λ c κs. search needs)
+    -- returns-3: mixed; 1 if2; 2 struct-known; 3 loop-test; 4 loop; 5 next-character; 6 name-of; 7 space-key; 8 space-of; 9 word-at; 12 args
     (λ c. search key-all))

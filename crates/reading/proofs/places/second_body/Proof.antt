@@ -1,5 +1,4 @@
 use borrow.Author.Needs.{needs}
-use native.Mathlib.Omega.{arith}
 use mathlib.Core.Path.{refl}
 use Rattle.reading.specs.Places.{second-stop, second-go}
 use Rattle.reading.proofs.places.second_body.Statement.{statement}
