@@ -14,7 +14,7 @@ second-records-spec = tie.close (tie.spec
     -- add-first-fault: first-fault-arg3; 1 first-fault-arg2; 2 first-fault-arg; 4 table; 5 weigh-all; 6 weigh-all-arg; 8 slots; 9 enter-all; 10 enter-all-arg; 17 args
     (λ c. search needs)
     -- first-fault-requires: first-fault-arg3; 1 first-fault-arg2; 2 first-fault-arg; 4 table; 5 weigh-all; 6 weigh-all-arg; 8 slots; 9 enter-all; 10 enter-all-arg; 17 args
-    (λ c κs. search needs)
+    (λ c κs. let p = c .before .before .before .before .before .before .before .before .before .before .before .before .before .before .before .before .before .pre in (omega arith, omega arith, c .before .before .before .before .before .weigh-all .ensures, p .5, omega arith, c .before .before .before .before .before .before .before .before .before .enter-all .ensures))
     -- same-length: 1 table2; 3 slots2; 5 seen; 6 first-fault; 7 first-fault-arg3; 8 first-fault-arg2; 9 first-fault-arg; 11 table; 12 weigh-all; 13 weigh-all-arg; 15 slots; 16 enter-all; 17 enter-all-arg; 24 args
     (λ c. search needs)
     -- same-length-2: 1 table2; 3 slots2; 5 seen; 6 first-fault; 7 first-fault-arg3; 8 first-fault-arg2; 9 first-fault-arg; 11 table; 12 weigh-all; 13 weigh-all-arg; 15 slots; 16 enter-all; 17 enter-all-arg; 24 args
