@@ -1,9 +1,9 @@
-//! Threads with a stack that the derivation check runs in: its tables and a walk 8,192 nodes deep.
+//! Threads with the usual stack of 8 MiB, in which both checks run.
 
 use std::panic::resume_unwind;
 use std::thread::{scope, Builder};
 
-pub const STACK_BYTES: usize = 32 << 20;
+pub const STACK_BYTES: usize = 8 << 20;
 
 /// Runs the work once in each thread, given the thread's number.
 pub fn in_threads<T: Send>(count: u64, work: impl Fn(u64) -> T + Sync) -> Vec<T> {
