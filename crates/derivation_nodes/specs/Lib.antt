@@ -6,6 +6,8 @@ pub mod Forms
 pub mod Premises
 pub mod Formed
 pub mod Members
+pub mod Listed
+pub mod Filled
 pub mod Needs
 pub mod Fits
 pub mod Fresh
