@@ -9,7 +9,7 @@ use lib.Seq.{getD-set-same, getD-set-other}
 use native.Mathlib.Omega.{arith}
 use borrow.Author.Tests.{eq-eqb, ne-eqb, eqb-true, eqb-false}
 use Rattle.reader.specs.Words.{Reader}
-use Rattle.reader.specs.Tests.{ifEq, eq-yes, eq-no}
+use Rattle.reader.specs.Tests.{every, ifEq, eq-yes, eq-no}
 use Rattle.reader.specs.Trees.{Tree, same, lower}
 use Rattle.derivation_rules.specs.Erase.{bareTree}
 use Rattle.derivation_rules.specs.Check.{member}
@@ -18,7 +18,8 @@ use Rattle.bare.specs.Table.{KeyOf}
 use Rattle.derivation_nodes.specs.Frames.{startAt, entryAt, countAt, addedBy, addedFrom, chainTrees, membersAt, Framed}
 use Rattle.derivation_nodes.specs.Formed.{chain-zero, chain-step}
 use Rattle.derivation_nodes.specs.Members.{entry-normal}
-use Rattle.derivation_nodes.specs.Listed.{isListed}
+use Rattle.derivation_nodes.specs.Needs.{held}
+use Rattle.derivation_nodes.specs.Listed.{isListed, Space}
 
 -- the trees of n positions from x on
 unfoldable pub listedTrees : Reader → List ℕ → ℕ → ℕ → List Tree
@@ -104,15 +105,22 @@ module _ (rd : Reader) (size : ℕ) (listed : List ℕ) (n c l : ℕ) (filled : 
     pub chain-room : n < length (chainTrees rd c)
     chain-room = filled-room rd size listed n (chainTrees rd l) (chainTrees rd c) filled k (chainTrees rd (lower rd l 3)) first
 
-    pub chain-next : (next : ℕ) → next ≡ lower rd l 3 → length (chainTrees rd c) < length listed →
-        Filled rd size (set listed (n + 1) k) (n + 1) (chainTrees rd next) (chainTrees rd c)
-    chain-next next en room =
-        rw en (filled-more rd size listed n (chainTrees rd l) (chainTrees rd c) filled k (chainTrees rd (lower rd l 3)) first (own .stands .normal) (omega (arith, chain-room)))
+    pub chain-next : (next : ℕ) (after : List ℕ) → next ≡ lower rd l 3 → after ≡ set listed (n + 1) k → length (chainTrees rd c) ≤ 2048 → length listed ≡ 2049 →
+        Filled rd size after (n + 1) (chainTrees rd next) (chainTrees rd c)
+    chain-next next after en ea few long =
+        rw (en, ea) (filled-more rd size listed n (chainTrees rd l) (chainTrees rd c) filled k (chainTrees rd (lower rd l 3)) first (own .stands .normal) (omega (arith, chain-room)))
 
 -- The ways out of `fill_added`.
 module _ (rd : Reader) (size : ℕ) (frames : List ℕ) (d s : ℕ) (here : Framed rd size frames d) (es : s ≡ startAt frames d) where
   members-low : length (membersAt rd frames d) ≤ 2048
   members-low = omega (arith, here .count, here .low)
+
+  pub chain-few : (c : ℕ) → c ≡ entryAt frames s → length (chainTrees rd c) ≤ 2048
+  unfolding membersAt
+  chain-few c ec =
+      let all : length (membersAt rd frames d) ≡ length (chainTrees rd (entryAt frames (startAt frames d))) + length (addedFrom rd frames (d - startAt frames d) (suc (startAt frames d))) =
+      length-append (chainTrees rd (entryAt frames (startAt frames d))) (addedFrom rd frames (d - startAt frames d) (suc (startAt frames d))) in
+      rw (ec, es) (omega (arith, all, members-low))
 
   pub added-start : (listed : List ℕ) (n : ℕ) → Filled rd size listed n [] (chainTrees rd (entryAt frames s)) →
       Filled rd size listed n (addedFrom rd frames (d - s) (suc s)) (membersAt rd frames d)
@@ -149,9 +157,9 @@ module _ (rd : Reader) (size : ℕ) (frames : List ℕ) (d s : ℕ) (here : Fram
       unfolding addedBy
       something h = sym (eq-no e 0 _ _ (decoded rd (e - 1) ∷ []) h refl)
 
-      pub added-next : 2048 < length listed → r ≡ ifEq e 0 n (n + 1) → after ≡ ifEq e 0 listed (set listed (n + 1) (e - 1)) →
+      pub added-next : length listed ≡ 2049 → r ≡ ifEq e 0 n (n + 1) → after ≡ ifEq e 0 listed (set listed (n + 1) (e - 1)) →
           Filled rd size after r rest (membersAt rd frames d)
-      added-next room er ea = go (eqb e 0) refl
+      added-next long er ea = go (eqb e 0) refl
         where
           go : (b : Bool) → eqb e 0 ≡ b → Filled rd size after r rest (membersAt rd frames d)
           go true t =
@@ -169,7 +177,7 @@ module _ (rd : Reader) (size : ℕ) (frames : List ℕ) (d s : ℕ) (here : Fram
               filled-room rd size listed n (addedFrom rd frames (d - f) (suc f)) (membersAt rd frames d) filled (e - 1) rest left in
               rw (count, stored)
               (filled-more rd size listed n (addedFrom rd frames (d - f) (suc f)) (membersAt rd frames d) filled (e - 1) rest left
-              (entry-normal rd size frames d s f e here es low less ee some) (omega (arith, room, room-here, members-low)))
+              (entry-normal rd size frames d s f e here es low less ee some) (omega (arith, long, room-here, members-low)))
 
 -- a listed key is that of a member
 listed-member : (rd : Reader) (size : ℕ) (listed : List ℕ) (k n x : ℕ) → Normal rd size k → ((y : ℕ) → x ≤ y → y < x + n → Normal rd size (getD listed y 0)) →
@@ -180,5 +188,32 @@ listed-member rd size listed k (suc n) x a all =
     go _ _ (key-same rd size (getD listed x 0) k (all x (omega arith) (omega arith)) a)
     _ _ (listed-member rd size listed k n (suc x) a (λ y p q. all y (omega arith) (omega arith)))
   where
-    go : (b c : Bool) → b ≡ c → (u v : Bool) → u ≡ v → elim b as (λ z. Bool) [ true ↦ true | false ↦ u ] ≡ elim c as (λ z. Bool) [ true ↦ true | false ↦ v ]
+    go : (b c : Bool) → b ≡ c → (u v : Bool) → u ≡ v → _≡_ {A = Bool} (elim b [ true ↦ true | false ↦ u ]) (elim c [ true ↦ true | false ↦ v ])
     go b c e u v f = ap (λ (w : Bool). elim w as (λ z. Bool) [ true ↦ true | false ↦ u ]) e ∙ ap (λ (w : Bool). elim c as (λ z. Bool) [ true ↦ true | false ↦ w ]) f
+
+-- The ways out of `fill` and of `items_held`.
+pub chain-of : (rd : Reader) (size : ℕ) (listed frames : List ℕ) (n s c : ℕ) → c ≡ entryAt frames s → Filled rd size listed n [] (chainTrees rd c) →
+    Filled rd size listed n [] (chainTrees rd (entryAt frames s))
+chain-of rd size listed frames n s c e filled = rw (← e) filled
+
+module _ (rd : Reader) (size : ℕ) (listed : List ℕ) (n : ℕ) (Γ : List Tree) (filled : Filled rd size listed n [] Γ) where
+  own-trees : listedTrees rd listed n 1 ≡ Γ
+  own-trees = sym (append-nil (listedTrees rd listed n 1)) ∙ filled .trees
+
+  pub filled-own : Filled rd size listed n [] (listedTrees rd listed n 1)
+  filled-own = rw own-trees filled
+
+  pub listed-held : (x : ℕ) (t : Tree) (r : Bool) → KeyOf rd size x t → r ≡ isListed listed n 1 x → r ≡ held Γ t
+  unfolding held
+  listed-held x t r own e =
+      rw (← own .stands .means, ← own-trees) (e ∙ listed-member rd size listed x n 1 (own .stands .normal) (λ y p q. filled .normal y (omega arith) (omega arith)))
+
+  pub every-held : (ts : List Tree) (r : Bool) → r ≡ every (held (listedTrees rd listed n 1)) ts → r ≡ every (held Γ) ts
+  every-held ts r e = rw (← own-trees) e
+
+pub listed-space : (rd : Reader) (size : ℕ) (frames listed slots : List ℕ) (d n : ℕ) → Framed rd size frames d → Filled rd size listed n [] (membersAt rd frames d) →
+    length listed ≡ 2049 → length slots ≡ 8194 → Space listed slots n
+listed-space rd size frames listed slots d n here filled l k =
+    let most : n ≤ length (membersAt rd frames d) = filled-most rd size listed n [] (membersAt rd frames d) filled in
+    let few : length (membersAt rd frames d) ≤ 2048 = members-low rd size frames d (startAt frames d) here refl in
+    record { long = omega arith; room = omega arith; small = omega arith }

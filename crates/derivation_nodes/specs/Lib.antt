@@ -7,8 +7,8 @@ pub mod Premises
 pub mod Formed
 pub mod Members
 pub mod Listed
-pub mod Filled
 pub mod Needs
+pub mod Filled
 pub mod Fits
 pub mod Fresh
 pub mod Rooms

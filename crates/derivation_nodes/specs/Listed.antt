@@ -5,7 +5,7 @@ use mathlib.Core.Path.{_≡_, refl, sym, ap, _∙_}
 use mathlib.Core.List.{List, [], _∷_}
 use mathlib.Core.Bool.{Bool, true, false, not, false≢true}
 use lib.Dec.{eqb, ltb}
-use lib.ListN.{length, getD, set}
+use lib.ListN.{length, getD, set, replicate, length-replicate, getD-replicate, List·getD-eq-default}
 use native.Mathlib.Omega.{arith}
 use borrow.Author.Tests.{eq-eqb, ne-eqb, eqb-true, eqb-false, ltb-true, ltb-false}
 use Rattle.reader.specs.Words.{Reader}
@@ -101,6 +101,14 @@ indexed-none listed slots f = record { placed = placed-none (listedKey listed) s
 
 pub indexed-end : (listed slots : List ℕ) (i last : ℕ) → last < i → i ≤ last + 1 → Indexed listed slots i → Indexed listed slots (last + 1)
 indexed-end listed slots i last p q h = let one : i ≡ last + 1 = omega arith in rw one at h
+
+-- slots as the code makes them
+pub zeros-free : (n : ℕ) → Zeros (replicate n 0)
+zeros-free n = record { zeros = λ r. go r (ltb r n) refl }
+  where
+    go : (r : ℕ) (b : Bool) → ltb r n ≡ b → getD {A = ℕ} (replicate n 0) r 0 ≡ 0
+    go r true e = getD-replicate n r 0 0 (ltb-true r n e)
+    go r false e = List·getD-eq-default (replicate n 0) 0 (omega (arith, length-replicate {A = ℕ} n 0, ltb-false r n e))
 
 -- position i is put in, or one with the same key is there
 put-indexed : (listed slots after : List ℕ) (i r : ℕ) → Indexed listed slots i → Put (listedKey listed) slots i r after → Indexed listed after (i + 1)

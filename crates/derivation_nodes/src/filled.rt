@@ -22,7 +22,7 @@ fn fill_chain(
     c: usize,
     listed: &mut [usize],
 ) -> usize
-    requires { ⌜ Table (word (now obligation) (now second) m) (now keys) × (c < length (now keys)) × (length (chainTrees (word (now obligation) (now second) m) c) < length (now listed)) ⌝ }
+    requires { ⌜ Table (word (now obligation) (now second) m) (now keys) × (c < length (now keys)) × (length (chainTrees (word (now obligation) (now second) m) c) ≤ 2048) × (length (now listed) ≡ 2049) ⌝ }
     ensures { λ r. ⌜ Filled (word (now (obligation .entry)) (now (second .entry)) m) (length (now (keys .entry))) (now (listed .exit)) r [] (chainTrees (word (now (obligation .entry)) (now (second .entry)) m) c) ⌝ }
 {
     let mut l = c;
@@ -61,7 +61,7 @@ fn fill_added(
     listed: &mut [usize],
     h: usize,
 ) -> usize
-    requires { ⌜ Framed (word (now obligation) (now second) m) (length (now keys)) (now frames) d × (s ≡ startAt (now frames) d) × (2048 < length (now listed)) × Filled (word (now obligation) (now second) m) (length (now keys)) (now listed) h [] (chainTrees (word (now obligation) (now second) m) (entryAt (now frames) s)) ⌝ }
+    requires { ⌜ Framed (word (now obligation) (now second) m) (length (now keys)) (now frames) d × (s ≡ startAt (now frames) d) × (length (now listed) ≡ 2049) × Filled (word (now obligation) (now second) m) (length (now keys)) (now listed) h [] (chainTrees (word (now obligation) (now second) m) (entryAt (now frames) s)) ⌝ }
     ensures { λ r. ⌜ Filled (word (now (obligation .entry)) (now (second .entry)) m) (length (now (keys .entry))) (now (listed .exit)) r [] (membersAt (word (now (obligation .entry)) (now (second .entry)) m) (now (frames .entry)) d) ⌝ }
 {
     let mut f = s;
@@ -84,7 +84,7 @@ pub fn fill(
     d: usize,
     listed: &mut [usize],
 ) -> usize
-    requires { ⌜ Table (word (now obligation) (now second) m) (now keys) × Framed (word (now obligation) (now second) m) (length (now keys)) (now frames) d × (2048 < length (now listed)) ⌝ }
+    requires { ⌜ Table (word (now obligation) (now second) m) (now keys) × Framed (word (now obligation) (now second) m) (length (now keys)) (now frames) d × (length (now listed) ≡ 2049) ⌝ }
     ensures { λ r. ⌜ Filled (word (now (obligation .entry)) (now (second .entry)) m) (length (now (keys .entry))) (now (listed .exit)) r [] (membersAt (word (now (obligation .entry)) (now (second .entry)) m) (now (frames .entry)) d) ⌝ }
 {
     let s = frames::start_at(frames, d);
