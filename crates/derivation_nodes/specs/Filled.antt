@@ -7,15 +7,15 @@ use lib.Dec.{eqb}
 use lib.ListN.{length, getD, set, length-append}
 use lib.Seq.{getD-set-same, getD-set-other}
 use native.Mathlib.Omega.{arith}
-use borrow.Author.Tests.{eq-eqb, ne-eqb, eqb-true, eqb-false}
+use borrow.Author.Tests.{eqb-true, eqb-false}
 use Rattle.reader.specs.Words.{Reader}
 use Rattle.reader.specs.Tests.{every, ifEq, eq-yes, eq-no}
-use Rattle.reader.specs.Trees.{Tree, same, lower}
+use Rattle.reader.specs.Trees.{Tree, lower}
 use Rattle.derivation_rules.specs.Erase.{bareTree}
 use Rattle.derivation_rules.specs.Check.{member}
 use Rattle.bare.specs.Keys.{decoded, Normal, key-same}
 use Rattle.bare.specs.Table.{KeyOf}
-use Rattle.derivation_nodes.specs.Frames.{startAt, entryAt, countAt, addedBy, addedFrom, chainTrees, membersAt, Framed}
+use Rattle.derivation_nodes.specs.Frames.{startAt, entryAt, addedBy, addedFrom, chainTrees, membersAt, Framed}
 use Rattle.derivation_nodes.specs.Formed.{chain-zero, chain-step}
 use Rattle.derivation_nodes.specs.Members.{entry-normal}
 use Rattle.derivation_nodes.specs.Needs.{held}
@@ -208,8 +208,8 @@ module _ (rd : Reader) (size : ℕ) (listed : List ℕ) (n : ℕ) (Γ : List Tre
   listed-held x t r own e =
       rw (← own .stands .means, ← own-trees) (e ∙ listed-member rd size listed x n 1 (own .stands .normal) (λ y p q. filled .normal y (omega arith) (omega arith)))
 
-  pub every-held : (ts : List Tree) (r : Bool) → r ≡ every (held (listedTrees rd listed n 1)) ts → r ≡ every (held Γ) ts
-  every-held ts r e = rw (← own-trees) e
+  pub listed-every : (ts : List Tree) (r : Bool) → r ≡ every (held (listedTrees rd listed n 1)) ts → r ≡ every (held Γ) ts
+  listed-every ts r e = rw (← own-trees) e
 
 pub listed-space : (rd : Reader) (size : ℕ) (frames listed slots : List ℕ) (d n : ℕ) → Framed rd size frames d → Filled rd size listed n [] (membersAt rd frames d) →
     length listed ≡ 2049 → length slots ≡ 8194 → Space listed slots n

@@ -2,20 +2,16 @@
 -- search for it comes to a position.
 use Prim.Native.Nat.{ℕ, zero, suc, _+_, _*_, _/_, _%_, _<_, _≤_}
 use mathlib.Core.Path.{_≡_, refl, sym, ap, _∙_}
-use mathlib.Core.List.{List, [], _∷_}
+use mathlib.Core.List.{List}
 use mathlib.Core.Bool.{Bool, true, false, not, false≢true}
 use lib.Dec.{eqb, ltb}
 use lib.ListN.{length, getD, set, replicate, length-replicate, getD-replicate, List·getD-eq-default}
 use native.Mathlib.Omega.{arith}
-use borrow.Author.Tests.{eq-eqb, ne-eqb, eqb-true, eqb-false, ltb-true, ltb-false}
-use Rattle.reader.specs.Words.{Reader}
-use Rattle.reader.specs.Trees.{Tree, same}
+use borrow.Author.Tests.{eqb-true, eqb-false, ltb-true, ltb-false}
 use Rattle.equality.specs.declared.Key.{Key}
 use Rattle.equality.specs.Keys.{key, bucketOf}
 use Rattle.equality.specs.Tables.{Zeros}
 use Rattle.equality.specs.Slots.{Path, In, Placed, Put, Ended, placed-none, old-put, new-put}
-use Rattle.derivation_rules.specs.Check.{member}
-use Rattle.bare.specs.Keys.{decoded, Normal, key-same}
 
 -- a number as a key of the search tree
 unfoldable pub spread : ℕ → Key

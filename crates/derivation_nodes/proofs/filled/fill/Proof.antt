@@ -1,6 +1,5 @@
 use borrow.Author.Needs.{needs}
 use native.Mathlib.Omega.{arith}
-use mathlib.Core.Path.{_∙_}
 use Rattle.derivation_nodes.specs.Members.{frame-in, start-in, chain-below}
 use Rattle.derivation_nodes.specs.Filled.{chain-few, chain-of}
 use Rattle.derivation_nodes.proofs.filled.fill.Statement.{statement}

@@ -3,7 +3,7 @@ use native.Mathlib.Omega.{arith}
 use Prim.Native.Nat.{ℕ}
 use lib.ListN.{length-replicate}
 use Rattle.derivation_nodes.specs.Listed.{zeros-free}
-use Rattle.derivation_nodes.specs.Filled.{listed-space, filled-own, every-held}
+use Rattle.derivation_nodes.specs.Filled.{listed-space, filled-own, listed-every}
 use Rattle.derivation_nodes.proofs.needs.items_held.Statement.{statement}
 use Rattle.derivation_nodes.proofs.needs.items_held.Tie as tie
 
@@ -26,4 +26,4 @@ items-held-spec = tie.close (tie.spec
     -- items-listed-requires: slots3; 1 listed4; 2 slots2; 3 place-all; 4 slots; 5 listed3; 6 listed2; 7 fill; 8 listed; 13 args
     (λ c κs. let p = c .before .before .before .before .before .before .before .before .before .before .before .before .before .pre in let f = c .before .before .before .before .before .before .before .fill .ensures in (p .0 .table, p .1, listed-space _ _ _ _ _ _ _ (p .0 .framed) f (c .before .before .before .before .before .before .before .fill .kept .1 .1 .1 .1 .1 .1 .0) (c .before .before .before .place-all .kept .1 .0), c .before .before .before .place-all .ensures, filled-own _ _ _ _ _ f))
     -- returns: items-listed; 1 slots3; 2 listed4; 3 slots2; 4 place-all; 5 slots; 6 listed3; 7 listed2; 8 fill; 9 listed; 14 args
-    (λ c. every-held _ _ _ _ _ (c .before .before .before .before .before .before .before .before .fill .ensures) _ _ (c .items-listed .ensures)))
+    (λ c. listed-every _ _ _ _ _ (c .before .before .before .before .before .before .before .before .fill .ensures) _ _ (c .items-listed .ensures)))
