@@ -67,7 +67,7 @@ pub record Framed (rd : Reader) (size : ℕ) (frames : List ℕ) (d : ℕ) : Typ
   pub few : negationsOf (goalAt frames d) ≤ size + d
   pub added : (f : ℕ) → startAt frames d < f → f ≤ d → (entryAt frames f ≡ 0 → ⊥) → Normal rd size (entryAt frames f - 1)
   pub count : countAt frames d ≡ length (membersAt rd frames d)
-  pub low : countAt frames d ≤ 262143
+  pub low : countAt frames d ≤ 2048
 
 -- the frames to depth d stayed
 pub record Kept (d : ℕ) (before after : List ℕ) : Type 0 where

@@ -6,7 +6,9 @@ pub mod Forms
 pub mod Premises
 pub mod Formed
 pub mod Members
+pub mod Listed
 pub mod Needs
+pub mod Filled
 pub mod Fits
 pub mod Fresh
 pub mod Rooms

@@ -15,7 +15,7 @@ use Rattle.derivation_rules.specs.Erase.{bareTree, bareParts}
 use Rattle.derivation_rules.specs.Rules.{Sequent, Row, row, noRow}
 use Rattle.derivation_rules.specs.Check.{member, needsMet, noOther}
 use Rattle.bare.specs.Keys.{negationsOf, decoded, Normal, Stands}
-use Rattle.bare.specs.Table.{Table, KeyOf}
+use Rattle.bare.specs.Table.{Table}
 use Rattle.derivation_nodes.specs.RowLaws.{row-none, by-rule}
 use Rattle.derivation_nodes.specs.Frames.{goalAt, chainTrees, membersAt, Framed}
 use Rattle.derivation_nodes.specs.Tables.{column, oneOf, formTree, needs-are}
@@ -113,11 +113,7 @@ only-goals rd n ps st = by (rd n 0) (eqb (rd n 0) 64) refl
     by k true e = rw (eqb-true k 64 e, only-64 ps st) refl
     by k false e = rw (only-other ps st k (eqb-false k 64 e)) refl
 
--- a key that stands for a tree
-pub held-key : (rd : Reader) (size x : ℕ) (t : Tree) (Γ : List Tree) (r : Bool) → KeyOf rd size x t → r ≡ member (decoded rd x) Γ → r ≡ held Γ t
-unfolding held
-held-key rd size x t Γ r k e = rw (← k .stands .means) e
-
+-- a key that stands for a form
 pub held-form : (rd : Reader) (size goal more x : ℕ) (t : Tree) (Γ : List Tree) (r : Bool) → Formed rd size goal more x t → r ≡ member (decoded rd x) Γ → r ≡ held Γ t
 unfolding held
 held-form rd size goal more x t Γ r k e = rw (← k .stands .means) e

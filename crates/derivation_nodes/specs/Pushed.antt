@@ -87,7 +87,7 @@ module _ (rd : Reader) (size d goal e count : ℕ) (before after : List ℕ) (he
       (sym (append-assoc (chainTrees rd (entryAt before s)) (addedFrom rd before (d - s) (suc s)) (addedBy rd e)))
 
   pub framed-added : d ≤ 8192 → length after ≡ length before → Normal rd size goal → negationsOf goal ≤ size + d + 1 → ((e ≡ 0 → ⊥) → Normal rd size (e - 1)) →
-      count ≡ countAt before d + length (addedBy rd e) → count ≤ 262143 → Framed rd size after (d + 1)
+      count ≡ countAt before d + length (addedBy rd e) → count ≤ 2048 → Framed rd size after (d + 1)
   framed-added deep l normal few own more low = record {
     long = l ∙ here .long;
     deep = omega arith;
@@ -119,7 +119,7 @@ module _ (rd : Reader) (size d goal c count : ℕ) (before after : List ℕ) (w 
       let none : d + 1 - (d + 1) ≡ 0 = omega arith in
       rw (w .start-is, w .entry-is, none) (append-nil (chainTrees rd c))
 
-  pub framed-set : d ≤ 8192 → length after ≡ 32776 → c < size → Normal rd size goal → negationsOf goal ≤ size + d + 1 → count ≡ length (chainTrees rd c) → count ≤ 262143 →
+  pub framed-set : d ≤ 8192 → length after ≡ 32776 → c < size → Normal rd size goal → negationsOf goal ≤ size + d + 1 → count ≡ length (chainTrees rd c) → count ≤ 2048 →
       Framed rd size after (d + 1)
   framed-set deep l within normal few more low = record {
     long = l;

@@ -4,7 +4,8 @@ use mathlib.Core.Path.{_≡_, refl, sym, ap, _∙_}
 use mathlib.Core.List.{List, [], _∷_, _++_}
 use mathlib.Core.Bool.{Bool, true, false}
 use lib.Dec.{eqb, ltb, leb}
-use lib.ListN.{getD, length, length-append}
+use lib.ListN.{getD, set, length, length-append}
+use lib.Seq.{getD-set-other}
 use native.Mathlib.Omega.{arith}
 use borrow.Author.Tests.{lt-ltb, le-ltb, ltb-true, ltb-false, leb-true, le-leb, lt-leb}
 use Rattle.reader.specs.Tests.{both, every, ifEq, ifLt}
@@ -124,7 +125,15 @@ module _ (ps : List Tree) (st : Sequent) where
       (λ h. refl) (λ h. absurd (h refl)) (λ h. refl) (λ h. refl) (λ h. refl) (λ h. refl) (λ h. refl) (λ h. refl) (λ h. refl) (λ h. refl) (λ h. refl) (λ h. refl) (λ h. refl) (λ h. refl) (λ h. refl) (λ h. refl) (λ h. refl)
       (λ k other h. rw (row-none k ps st other, column-none k 4 other) refl)
 
+-- the entries that are bytes, and 0 for the three others
+abbrev pub bytes : List ℕ
+bytes = set (set (set rules 182 0) 196 0) 210 0
+
 -- The ways out of the code that reads the table.
+pub entry-byte : (i : ℕ) → (i ≡ 182 → ⊥) → (i ≡ 196 → ⊥) → (i ≡ 210 → ⊥) → (r : ℕ) → r ≡ getD bytes i 0 → r ≡ getD rules i 0
+entry-byte i p q r v e =
+    e ∙ getD-set-other (set (set rules 182 0) 196 0) 210 i 0 0 r ∙ getD-set-other (set rules 182 0) 196 i 0 0 q ∙ getD-set-other rules 182 i 0 0 p
+
 module _ (k w : ℕ) where
   pub column-low : k < 64 → 0 ≡ column k w
   unfolding column ifLt
@@ -135,6 +144,6 @@ module _ (k w : ℕ) where
     unfolding column ifLt
     column-high h = simp (column, ifLt, le-ltb k 64 low, lt-ltb 80 k h)
 
-    pub column-rule : k ≤ 80 → getD rules (14 * (k - 64) + w) 0 ≡ column k w
+    pub column-rule : k ≤ 80 → (r : ℕ) → r ≡ getD rules (14 * (k - 64) + w) 0 → r ≡ column k w
     unfolding column ifLt
-    column-rule h = simp (column, ifLt, le-ltb k 64 low, le-ltb 80 k h)
+    column-rule h r e = simp (column, ifLt, le-ltb k 64 low, le-ltb 80 k h) e

@@ -1,12 +1,14 @@
 // What the rules 64 to 80 ask and make, as a table.
 ghost use mathlib.Core.Path.{_≡_};
 ghost use Prim.Native.Nat.{_<_};
-ghost use Rattle.derivation_nodes.specs.Tables.{column};
+ghost use lib.ListN.{getD};
+ghost use Rattle.derivation_nodes.specs.Tables.{rules, bytes, column};
 
 // Fourteen columns a rule: 0 shapes of the parts; 1 shape of the goal; 2 number of premises; 3 form needed in the sequent;
 // 4 and 5 goal of premise 0 and the member that it adds; 6 and 7 the same of premise 1; 8 and 9 two forms that are equal;
 // 10 to 12 three forms, of which the first is the third with the second in place of index 0; 13 the most members that a premise adds.
-const RULES: [usize; 238] = [
+// Three numbers are no bytes: `rule_entry` has them.
+const RULES: [u8; 238] = [
     0,
     0,
     0,
@@ -189,7 +191,7 @@ const RULES: [usize; 238] = [
     0,
     0,
     1,
-    9479,
+    0,
     19,
     1,
     0,
@@ -203,7 +205,7 @@ const RULES: [usize; 238] = [
     8,
     6,
     0,
-    9235,
+    0,
     0,
     1,
     0,
@@ -217,7 +219,7 @@ const RULES: [usize; 238] = [
     12,
     10,
     0,
-    2429989,
+    0,
     0,
     2,
     0,
@@ -247,6 +249,31 @@ const RULES: [usize; 238] = [
     0,
 ];
 
+// Entry i where it is a byte, and else 0.
+fn rule_byte(i: usize) -> u8
+    requires { ⌜ i < 238 ⌝ }
+    ensures { λ r. ⌜ r ≡ getD bytes i 0 ⌝ }
+{
+    RULES[i]
+}
+
+// Entry i of the table.
+fn rule_entry(i: usize) -> usize
+    requires { ⌜ i < 238 ⌝ }
+    ensures { λ r. ⌜ r ≡ getD rules i 0 ⌝ }
+{
+    if i == 182 {
+        return 9479;
+    }
+    if i == 196 {
+        return 9235;
+    }
+    if i == 210 {
+        return 2429989;
+    }
+    rule_byte(i) as usize
+}
+
 // Column w of rule k, 0 for no rule.
 pub fn column(k: usize, w: usize) -> usize
     requires { ⌜ w < 14 ⌝ }
@@ -258,5 +285,5 @@ pub fn column(k: usize, w: usize) -> usize
     if 80 < k {
         return 0;
     }
-    RULES[14 * (k - 64) + w]
+    rule_entry(14 * (k - 64) + w)
 }

@@ -10,13 +10,11 @@ column-spec = tie.close (tie.spec
     (λ c. search column-low)
     -- returns-2: if2; 1 if1; 2 args
     (λ c. search column-high)
-    -- mul-result: if2; 1 if1; 2 args
+    -- mul-rule-entry: if2; 1 if1; 2 args
     (λ c. search needs)
-    -- add-result: if2; 1 if1; 2 args
+    -- add-rule-entry: if2; 1 if1; 2 args
     (λ c. search needs)
-    -- mul-result-2: if2; 1 if1; 2 args
-    (λ c. search needs)
-    -- array-read-result: if2; 1 if1; 2 args
-    (λ c. search needs)
-    -- returns-3: if2; 1 if1; 2 args
-    (λ c. search column-rule))
+    -- rule-entry-requires: if2; 1 if1; 2 args
+    (λ c κs. search needs)
+    -- returns-3: rule-entry; 1 if2; 2 if1; 3 args
+    (λ c. column-rule _ _ (c .before .before .if1 .left) (c .before .if2 .left) _ (c .rule-entry .ensures)))
