@@ -27,6 +27,20 @@ markOf b = elim b [ true ↦ 1 | false ↦ 0 ]
 pub record Marked (rd : Reader) (c : ℕ) (marks : List ℕ) (n : ℕ) : Type 0 where
   pub holds : (j : ℕ) → c ≤ j → j < n → getD marks j 0 ≡ markOf (occurs c (bareTree rd j))
 
+-- the marks before c and from n on stayed
+pub record Unmarked (c n : ℕ) (before marks : List ℕ) : Type 0 where
+  pub below : (j : ℕ) → j < c → getD marks j 0 ≡ getD before j 0
+  pub above : (j : ℕ) → n ≤ j → getD marks j 0 ≡ getD before j 0
+
+pub unmarked-start : (c n : ℕ) (marks : List ℕ) → Unmarked c n marks marks
+unmarked-start c n marks = record { below = λ j h. refl; above = λ j h. refl }
+
+pub unmarked-more : (c n j v : ℕ) (before marks : List ℕ) → c ≤ j → j < n → Unmarked c n before marks → Unmarked c n before (set marks j v)
+unmarked-more c n j v before marks p h u = record {
+  below = λ i q. getD-set-other marks j i v 0 (λ z. omega arith) ∙ u .below i q;
+  above = λ i q. getD-set-other marks j i v 0 (λ z. omega arith) ∙ u .above i q;
+}
+
 -- record j is the constant c
 unfoldable pub constantAt : Reader → ℕ → ℕ → Bool
 constantAt rd c j = both (eqb j c) (eqb (rd j 0) 7)

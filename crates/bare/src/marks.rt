@@ -9,7 +9,7 @@ ghost use Rattle.reader.specs.Words.{word};
 ghost use Rattle.reader.specs.Variables.{occurs};
 ghost use Rattle.derivation_rules.specs.Erase.{bareTree};
 ghost use Rattle.bare.specs.Keys.{decoded, Normal};
-ghost use Rattle.bare.specs.Marks.{Marked, markOf, constantAt, partMarked, nodeMarked};
+ghost use Rattle.bare.specs.Marks.{Marked, Unmarked, markOf, constantAt, partMarked, nodeMarked};
 
 // Is constant c in record x, by the marks of the records below n?
 fn is_marked(
@@ -115,10 +115,10 @@ fn mark_of(obligation: &[u8], second: &[u8], m: usize, marks: &[u8], c: usize, j
     }
 }
 
-// Marks the records from c on, below n.
+// Marks the records from c on, below n; the other marks stay.
 pub fn mark_all(obligation: &[u8], second: &[u8], m: usize, marks: &mut [u8], c: usize, n: usize)
     requires { ⌜ n ≤ length (now marks) ⌝ }
-    ensures { λ _. ⌜ Marked (word (now (obligation .entry)) (now (second .entry)) m) c (now (marks .exit)) n ⌝ }
+    ensures { λ _. ⌜ Marked (word (now (obligation .entry)) (now (second .entry)) m) c (now (marks .exit)) n × Unmarked c n (now (marks .entry)) (now (marks .exit)) ⌝ }
 {
     let mut j = c;
     while j < n {

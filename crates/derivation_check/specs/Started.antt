@@ -3,7 +3,7 @@ use Prim.Native.Nat.{ℕ, zero, suc, _+_, _*_, _<_, _≤_}
 use mathlib.Core.Path.{_≡_, refl, sym, ap, _∙_}
 use mathlib.Core.List.{List, _++_}
 use mathlib.Core.Bool.{Bool, true, false}
-use lib.ListN.{length, take, drop, replicate, length-replicate, length-append, length-take, length-drop}
+use lib.ListN.{getD, length, take, drop, replicate, length-replicate, length-append, length-take, length-drop}
 use lib.Seq.{length-take-le}
 use native.Mathlib.Omega.{arith}
 use borrow.Author.Tests.{eq-eqb, ne-eqb}
@@ -42,8 +42,10 @@ pub record Starting (rd : Reader) (keys frames : List ℕ) : Type 0 where
   pub goal : negatedGoal rd < length keys
   pub few : length (linked rd (hypothesisChain rd)) ≤ 256
 
--- the frame of the root
-pub record Started (rd : Reader) (size : ℕ) (frames : List ℕ) : Type 0 where
+-- the frame of the root is written: only that one changed
+pub record Started (rd : Reader) (size : ℕ) (before frames : List ℕ) : Type 0 where
+  pub below : (i : ℕ) → i < 4 → getD frames i 0 ≡ getD before i 0
+  pub above : (i : ℕ) → 8 ≤ i → getD frames i 0 ≡ getD before i 0
   pub framed : Framed rd size frames 1
   pub state : stateOf rd frames 1 ≡ startSequent rd
 
@@ -55,9 +57,11 @@ formula-in rd keys frames (suc negated) formula s en ef =
 
 pub root-written : (rd : Reader) (keys before after : List ℕ) (chain negated formula goal count : ℕ) → Starting rd keys before → chain ≡ rd 0 2 → negated ≡ rd 0 3 → formula ≡ child rd negated 1 →
     KeyOf rd (length keys) goal (bareTree rd formula) → count ≡ length (linked rd chain) → length after ≡ length before → Written 1 1 goal chain count before after →
-    Started rd (length keys) after
+    Started rd (length keys) before after
 unfolding stateOf startSequent hypotheses goalOf chainTrees bareTree
 root-written rd keys before after chain negated formula goal count s ec en ef key el l w = record {
+  below = w .below;
+  above = w .above;
   framed = framed-set rd (length keys) 0 goal chain count before after w (omega arith) (l ∙ s .long) (rw ec (s .chain)) (key .stands .normal)
       (omega (arith, key .few)) (el ∙ sym (chain-length rd chain)) (omega (arith, el, few));
   state = rw (members, goal-is) refl;
@@ -128,9 +132,9 @@ module _ (ob s : List ℕ) (m : ℕ) (keys slots reaches frames marks ways : Lis
         few = rw same-reader (pair-hypotheses-limit 2 ob s (p .0) (p .1));
       }
 
-  pub enter-at : (table after : List ℕ) (root : ℕ) → length table ≡ length keys → Table (word ob s m) table → Started (word ob s m) (length table) after →
+  pub enter-at : (table before after : List ℕ) (root : ℕ) → length table ≡ length keys → Table (word ob s m) table → Started (word ob s m) (length table) before after →
       root ≡ wordOf s 0 2 → At (word ob s m) table after 1 root
-  enter-at table after root l n started e =
+  enter-at table before after root l n started e =
       let p = both-read ob s (enter .read) in
       record {
         table = n;
@@ -176,10 +180,10 @@ module _ (ob s : List ℕ) (m : ℕ) (keys slots reaches frames marks ways : Lis
       let most : under 2 (beside ob s) (rootOf s) ≤ countOf s = root-under 2 ob s (p .0) (p .1) in
       rw (e, same-reader) (omega (arith, derivation-few ob s (enter .read)))
 
-pub walked-from : (rd : Reader) (size : ℕ) (s after : List ℕ) (root : ℕ) (r : Answer) → root ≡ wordOf s 0 2 → Started rd size after →
+pub walked-from : (rd : Reader) (size : ℕ) (s before after : List ℕ) (root : ℕ) (r : Answer) → root ≡ wordOf s 0 2 → Started rd size before after →
     r ≡ visit rd root (stateOf rd after 1) 0 → r ≡ derivationWalk rd (rootOf s)
 unfolding derivationWalk visit
-walked-from rd size s after root r er started e = rw (← er, ← started .state) e
+walked-from rd size s before after root r er started e = rw (← er, ← started .state) e
 
 -- The ways out of `check_derivation`.
 module _ (ob s : List ℕ) (a : Answer) (ea : a ≡ reading 2 ob s) where
@@ -203,16 +207,15 @@ module _ (ob s : List ℕ) (a : Answer) (ea : a ≡ reading 2 ob s) where
     entering m n size keys slots reaches frames marks ways em en es l r f k w d =
         record { read = check-read; counted = em; all = l ∙ es ∙ rw en refl; room = r; far = f ∙ es ∙ rw en refl; long = k; wide = w; deep = d }
 
--- the part of the table that has keys
-pub part-length : (k : ℕ) → k ≤ 201024 → length {A = ℕ} (take k (replicate 201024 0)) ≡ k
-part-length k h = length-take-le k (replicate 201024 0) (rw long h)
-  where
-    long : length {A = ℕ} (replicate 201024 0) ≡ 201024
-    long = length-replicate {A = ℕ} 201024 0
-
 -- the part of a table that the walk is lent
 pub prefix-length : (k : ℕ) (table : List ℕ) (n : ℕ) → k ≤ n → n ≤ length table → length (take k table) ≡ k
 prefix-length k table n h g = length-take-le k table (omega arith)
+
+-- the part of the table that has keys
+pub part-length : (k : ℕ) → k ≤ 201024 → length {A = ℕ} (take k (replicate 201024 0)) ≡ k
+part-length k h =
+    let long : length {A = ℕ} (replicate 201024 0) ≡ 201024 = length-replicate {A = ℕ} 201024 0 in
+    prefix-length k (replicate 201024 0) 201024 h (rw long (omega arith))
 
 -- a table whose first part was lent and came back
 pub joined-length : (k : ℕ) (part table first : List ℕ) → length part ≡ length (take k table) → length table ≡ length first → length (part ++ drop k table) ≡ length first

@@ -11,7 +11,7 @@ ghost use Rattle.derivation_check.specs.Started.{Starting, Started};
 // Writes the frame of the root.
 pub fn store_start(obligation: &[u8], second: &[u8], m: usize, keys: &[usize], frames: &mut [usize])
     requires { ⌜ Starting (word (now obligation) (now second) m) (now keys) (now frames) ⌝ }
-    ensures { λ _. ⌜ Started (word (now (obligation .entry)) (now (second .entry)) m) (length (now (keys .entry))) (now (frames .exit)) ⌝ }
+    ensures { λ _. ⌜ Started (word (now (obligation .entry)) (now (second .entry)) m) (length (now (keys .entry))) (now (frames .entry)) (now (frames .exit)) ⌝ }
 {
     let chain = words::word_at(obligation, second, m, 0, 2);
     let negated = words::word_at(obligation, second, m, 0, 3);

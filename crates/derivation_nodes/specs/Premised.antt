@@ -54,9 +54,10 @@ passed rd st n why e h =
 unfoldable pub premiseCount : Reader → Sequent → ℕ → ℕ
 premiseCount rd st n = length (rowOf rd st n .premises)
 
--- the frames after a premise's is written
+-- the frames after a premise's is written: only that one changed
 pub record Premised (rd : Reader) (size d n b : ℕ) (before after : List ℕ) : Type 0 where
   pub kept : Kept d before after
+  pub above : (i : ℕ) → 4 * (d + 1) + 4 ≤ i → getD after i 0 ≡ getD before i 0
   pub framed : Framed rd size after (d + 1)
   pub state : stateOf rd after (d + 1) ≡ premiseState rd (stateOf rd before d) n b
 
@@ -179,6 +180,7 @@ module _ (rd : Reader) (keys : List ℕ) (d n b k goal c count : ℕ) (before af
   unfolding stateOf
   premised-set = record {
     kept = written-kept d (d + 1) goal c count before after w;
+    above = w .above;
     framed = framed-set rd (length keys) d goal c count before after w (pass .deep) (l ∙ here .framed .long) below normal few
         (el ∙ sym (chain-length rd c)) (omega (arith, small));
     state = sequent-is _ _ _ _ _ _ (members-set rd (length keys) d goal c count before after w ∙ sym (parts-chain rd n c ec))
@@ -257,6 +259,7 @@ module _ (rd : Reader) (keys : List ℕ) (d n b k goal g key : ℕ) (before : Li
     unfolding stateOf
     premised-none none w0 = record {
       kept = written-kept d (startAt before d) key 0 h before after w;
+      above = w .above;
       framed = framed-added rd (length keys) d key 0 h before after (here .framed) w (pass .deep) l (formed .stands .normal) few (λ z. absurd (z refl))
           (eh ∙ same) (omega (arith, eh, here .framed .low));
       state = sequent-is _ _ _ _ _ _
@@ -278,6 +281,7 @@ module _ (rd : Reader) (keys : List ℕ) (d n b k goal g key : ℕ) (before : Li
     unfolding stateOf
     premised-one some x own w0 = record {
       kept = written-kept d (startAt before d) key (x + 1) (h + 1) before after w;
+      above = w .above;
       framed = framed-added rd (length keys) d key (x + 1) (h + 1) before after (here .framed) w (pass .deep) l (formed .stands .normal) few
           (λ z. rw same (own .stands .normal)) (rw eh one-more) (omega (arith, room));
       state = sequent-is _ _ _ _ _ _

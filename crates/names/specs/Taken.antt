@@ -41,6 +41,7 @@ pub record Names (rd : Reader) (slots : List ℕ) (i : ℕ) : Type 0 where
 -- Record i is looked up among the symbols before it: r is the one with its key, which is i where none has it, or where i has no key.
 pub record Looked (rd : Reader) (i r : ℕ) (after : List ℕ) : Type 0 where
   pub names : Names rd after (i + 1)
+  pub key : nameKey rd r ≡ nameKey rd i
   pub out : (nameKey rd i) .kind ≡ 0 → r ≡ i
   pub free : 0 < (nameKey rd i) .kind → eqb r i ≡ not (nameTaken rd i)
 
@@ -127,6 +128,7 @@ module _ (rd : Reader) (space : ℕ) (cs : List ℕ) where
 looked-out : (rd : Reader) (slots : List ℕ) (i : ℕ) → (nameKey rd i) .kind ≡ 0 → Names rd slots i → Looked rd i i slots
 looked-out rd slots i none names = record {
   names = record { placed = placed-next (nameKey rd) slots i (names .placed); own = names .own; all = λ x p q h. go x p q h (ltb x i) refl };
+  key = refl;
   out = λ e. refl;
   free = λ h. absurd (omega arith);
 }
@@ -188,6 +190,7 @@ module _ (rd : Reader) (before after : List ℕ) (i r : ℕ) (p : 0 < i) (has : 
   looked-up : Looked rd i r after
   looked-up = record {
     names = record { placed = put .placed; own = own-more; all = all-more };
+    key = put .key;
     out = λ e. absurd (omega arith);
     free = λ h. free-is (i - 1) (omega arith) (nameTaken rd i) refl;
   }

@@ -16,7 +16,7 @@ walk-derivation-spec = tie.close (tie.spec
     (λ c κs. search needs)
     -- walk-requires: walk-arg5; 1 walk-arg4; 2 walk-arg3; 3 walk-arg2; 4 walk-arg; 5 word-of; 7 frames; 8 store-start; 9 store-start-arg2; 10 store-start-arg; 12 reaches; 13 reach-all; 14 reach-all-arg; 16 slots; 18 keys; 19 key-all; 20 key-all-arg2; 21 key-all-arg; 31 args
     (λ c κs. (
-      enter-at _ _ _ _ _ _ _ _ _ (c .before .before .before .before .before .before .before .before .before .before .before .before .before .before .before .before .before .before .before .before .before .before .before .before .before .before .before .before .before .before .before .pre) _ _ _ (c .before .before .before .before .before .before .before .before .before .before .before .before .before .before .before .before .before .before .before .key-all .kept .1 .1 .1 .0) (c .before .before .before .before .before .before .before .before .before .before .before .before .before .before .before .before .before .before .before .key-all .ensures) (c .before .before .before .before .before .before .before .before .store-start .ensures) (c .before .before .before .before .before .word-of .ensures),
+      enter-at _ _ _ _ _ _ _ _ _ (c .before .before .before .before .before .before .before .before .before .before .before .before .before .before .before .before .before .before .before .before .before .before .before .before .before .before .before .before .before .before .before .pre) _ _ _ _ (c .before .before .before .before .before .before .before .before .before .before .before .before .before .before .before .before .before .before .before .key-all .kept .1 .1 .1 .0) (c .before .before .before .before .before .before .before .before .before .before .before .before .before .before .before .before .before .before .before .key-all .ensures) (c .before .before .before .before .before .before .before .before .store-start .ensures) (c .before .before .before .before .before .word-of .ensures),
       enter-ready _ _ _ _ _ _ _ _ _ (c .before .before .before .before .before .before .before .before .before .before .before .before .before .before .before .before .before .before .before .before .before .before .before .before .before .before .before .before .before .before .before .pre) _ _ (c .before .before .before .before .before .before .before .before .before .before .before .before .before .before .before .before .before .before .before .key-all .kept .1 .1 .1 .0) (c .before .before .before .before .before .before .before .before .before .before .before .before .before .reach-all .kept .1 .1 .1 .0) (c .before .before .before .before .before .before .before .before .before .before .before .before .before .before .before .before .before .before .before .key-all .ensures) (c .before .before .before .before .before .before .before .before .before .before .before .before .before .reach-all .ensures),
       c .before .before .before .before .before .before .before .before .before .before .before .before .before .before .before .before .before .before .before .before .before .before .before .before .before .before .before .before .before .before .before .pre .deep,
       enter-header _ _ _ _ _ _ _ _ _ (c .before .before .before .before .before .before .before .before .before .before .before .before .before .before .before .before .before .before .before .before .before .before .before .before .before .before .before .before .before .before .before .pre),
@@ -31,4 +31,4 @@ walk-derivation-spec = tie.close (tie.spec
     (λ c. search needs)
     (λ c. search needs)
     -- returns
-    (λ c. walked-from _ _ _ _ _ _ (c .before .before .before .before .before .before .before .before .before .before .before .before .word-of .ensures) (c .before .before .before .before .before .before .before .before .before .before .before .before .before .before .before .store-start .ensures) (c .before .before .before .before .before .before .walk .ensures)))
+    (λ c. walked-from _ _ _ _ _ _ _ (c .before .before .before .before .before .before .before .before .before .before .before .before .word-of .ensures) (c .before .before .before .before .before .before .before .before .before .before .before .before .before .before .before .store-start .ensures) (c .before .before .before .before .before .before .walk .ensures)))
