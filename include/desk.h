@@ -1,4 +1,4 @@
-/* The desk's entries. Each takes two byte areas and changes nothing; any bytes are answered. */
+/* The entries of libfavashears.a. Each takes two byte areas and changes nothing; any bytes are answered. */
 #ifndef DESK_H
 #define DESK_H
 
@@ -21,14 +21,14 @@ struct desk_answer {
     unsigned long nodes;
 };
 
-/* The whole check of a proof: refusals 1 to 17, or acceptance. In libproof_check.a. */
+/* The whole check of a proof: refusals 1 to 17, or acceptance. */
 uint64_t desk_check_proof(const uint8_t *obligation, size_t obligation_length, const uint8_t *proof, size_t proof_length);
 
-/* The whole check of a derivation: refusals 1 to 18 but for 10 of its own records, or acceptance. In libderivation_check.a. It has its tables on the
+/* The whole check of a derivation: refusals 1 to 18 but for 10 of its own records, or acceptance. It has its tables on the
  * stack, 4.4 MiB whatever the files: call it on a stack of at least 5 MiB. */
 uint64_t desk_check_derivation(const uint8_t *obligation, size_t obligation_length, const uint8_t *derivation, size_t derivation_length);
 
-/* Refusals 1 to 12 of an obligation and a proof, or a derivation; 0 where none applies. In libreading.a. The second takes 3 MiB of stack. */
+/* Refusals 1 to 12 of an obligation and a proof, or a derivation; 0 where none applies. The second takes 3 MiB of stack. */
 uint64_t desk_read_proof(const uint8_t *obligation, size_t obligation_length, const uint8_t *proof, size_t proof_length);
 uint64_t desk_read_derivation(const uint8_t *obligation, size_t obligation_length, const uint8_t *derivation, size_t derivation_length);
 

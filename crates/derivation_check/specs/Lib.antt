@@ -1,4 +1,1 @@
-pub mod Ways
-pub mod Walked
-pub mod Going
 pub mod Started

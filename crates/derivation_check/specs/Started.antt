@@ -16,23 +16,23 @@ use Rattle.reader.specs.Chains.{linked}
 use Rattle.reader.specs.Laws.{child-below}
 use Rattle.reader.specs.Answers.{orAnswer}
 use Rattle.reader.specs.Places.{mostRecords, hypothesisChain, negatedGoal, countOf, rootOf, reading}
-use Rattle.reading.specs.Places.{Roomy}
-use Rattle.typing.specs.Shapes.{first-tree, child-zero}
-use Rattle.accepted.specs.File.{ReadObligation, ReadSecond, beside, lastOf, reading-parts, length-parts, header-parts, counts-parts}
-use Rattle.accepted.specs.Parts.{bound-variable-first}
-use Rattle.accepted.specs.Pair.{header-kind, pair-sound, rule-range, root-range, pair-goal-range, pair-hypotheses-range, pair-hypotheses-limit}
-use Rattle.accepted.specs.Under.{under, root-under}
+use Rattle.reader_places.specs.Places.{Roomy}
+use Rattle.reader_chains.specs.Shapes.{first-tree, child-zero}
+use Rattle.reader_laws.specs.File.{ReadObligation, ReadSecond, beside, lastOf, reading-parts, length-parts, header-parts, counts-parts}
+use Rattle.reader_laws.specs.Parts.{bound-variable-first}
+use Rattle.reader_laws.specs.Pair.{header-kind, pair-sound, rule-range, root-range, pair-goal-range, pair-hypotheses-range, pair-hypotheses-limit}
+use Rattle.reader_laws.specs.Under.{under, root-under}
 use Rattle.derivation_rules.specs.Erase.{bareTree}
 use Rattle.derivation_rules.specs.Check.{hypotheses, goalOf, startSequent, derivationWalk, derivationAnswer}
-use Rattle.bare.specs.Keys.{decoded}
-use Rattle.bare.specs.Table.{Table, KeyOf}
-use Rattle.bare.specs.Reaches.{Indexed, Reached}
-use Rattle.derivation_nodes.specs.Frames.{goalAt, chainTrees, membersAt, stateOf, Framed, Written}
-use Rattle.derivation_nodes.specs.Pushed.{members-set, framed-set}
-use Rattle.derivation_nodes.specs.Needs.{At}
+use Rattle.derivation_trees.specs.Keys.{decoded}
+use Rattle.derivation_trees.specs.Table.{Table, KeyOf}
+use Rattle.derivation_closedness.specs.Reaches.{Indexed, Reached}
+use Rattle.derivation_frames.specs.Frames.{goalAt, chainTrees, membersAt, stateOf, Framed, Written}
+use Rattle.derivation_frames.specs.Pushed.{members-set, framed-set}
+use Rattle.derivation_members.specs.Needs.{At}
 use Rattle.derivation_nodes.specs.Nodes.{Ready}
 use Rattle.derivation_nodes.specs.Premised.{chain-length}
-use Rattle.derivation_check.specs.Walked.{visit}
+use Rattle.derivation_walk.specs.Walked.{visit}
 
 -- the keys are there, and the obligation's header names what it should
 pub record Starting (rd : Reader) (keys frames : List ℕ) : Type 0 where

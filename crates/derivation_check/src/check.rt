@@ -1,18 +1,18 @@
 // The derivation check of two byte areas.
 use crate::start;
-use crate::walk;
-use bare::closed;
-use bare::fill;
+use derivation_closedness::closed;
+use derivation_trees::fill;
+use derivation_walk::walk;
 use reader::Answer;
 use reader::words;
-use reading::places;
+use reader_places::places;
 ghost use mathlib.Core.Path.{_≡_};
 ghost use Rattle.reader.specs.declared.Answer.{Answer};
 ghost use Rattle.reader.specs.Words.{word};
 ghost use Rattle.reader.specs.Places.{rootOf};
-ghost use Rattle.equality.specs.Tables.{Zeros};
-ghost use Rattle.naming.specs.Totals.{Cleared};
-ghost use Rattle.reading.specs.Places.{Blank, Roomy};
+ghost use Rattle.reader_equality.specs.Tables.{Zeros};
+ghost use Rattle.reader_naming.specs.Totals.{Cleared};
+ghost use Rattle.reader_places.specs.Places.{Blank, Roomy};
 ghost use Rattle.derivation_rules.specs.Check.{derivationWalk, derivationAnswer};
 ghost use Rattle.derivation_check.specs.Started.{Entering};
 

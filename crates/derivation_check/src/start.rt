@@ -1,7 +1,7 @@
 // "The start is: hypotheses ⊢ goal."
-use bare::keys;
-use derivation_nodes::frames;
+use derivation_frames::frames;
 use derivation_nodes::push;
+use derivation_trees::keys;
 use reader::trees;
 use reader::words;
 ghost use lib.ListN.{length};

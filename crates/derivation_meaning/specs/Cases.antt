@@ -10,7 +10,7 @@ use Rattle.reader.specs.Tests.{ifEq}
 use Rattle.reader.specs.Trees.{Tree, atomOf, firstOf, secondOf, ⊥ᵗ, _∧ᵗ_, _⇒ᵗ_, ¬ᵗ_, _=ᵗ_}
 use Rattle.reader.specs.Chains.{premises}
 use Rattle.reader.specs.Shapes.{hasShape, term, formula}
-use Rattle.accepted.specs.Scan.{both-parts}
+use Rattle.reader_laws.specs.Scan.{both-parts}
 use Rattle.derivation_rules.specs.Erase.{bareParts}
 use Rattle.derivation_rules.specs.Rules.{Sequent, sequent, row}
 use Rattle.derivation_meaning.specs.Notions.{_∈_, here, there, constantᵗ, allᵗ, _⟨_⟩}

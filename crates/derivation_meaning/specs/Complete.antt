@@ -14,7 +14,7 @@ use Rattle.reader.specs.Variables.{isBound, indicesBelow}
 use Rattle.reader.specs.Shapes.{hasShape, haveShapes, term, formula, equation}
 use Rattle.reader.specs.Laws.{same-self}
 use Rattle.reader.specs.Meaning.{Each, Passes, passes}
-use Rattle.accepted.specs.Scan.{both-join}
+use Rattle.reader_laws.specs.Scan.{both-join}
 use Rattle.derivation_rules.specs.Erase.{bareParts}
 use Rattle.derivation_rules.specs.Rules.{Sequent, sequent, Row, row}
 use Rattle.derivation_rules.specs.Check.{goalFormed, rowOf, nodeFault, premiseState}

@@ -15,10 +15,10 @@ use Rattle.reader.specs.Chains.{items}
 use Rattle.reader.specs.Records.{hasClass}
 use Rattle.reader.specs.Places.{isHypothesis}
 use Rattle.reader.specs.Laws.{below, tree-zero, tree-step, lower-below, items-zero, items-step}
-use Rattle.accepted.specs.Scan.{every-head, either-parts}
-use Rattle.accepted.specs.Record.{Sound, class-is, items-are}
-use Rattle.accepted.specs.Classes.{term-class, formula-class, function-class, link-class, class-of-kind}
-use Rattle.accepted.specs.Parts
+use Rattle.reader_laws.specs.Scan.{every-head, either-parts}
+use Rattle.reader_laws.specs.Record.{Sound, class-is, items-are}
+use Rattle.reader_laws.specs.Classes.{term-class, formula-class, function-class, link-class, class-of-kind}
+use Rattle.reader_laws.specs.Parts
 use Rattle.derivation_rules.specs.Erase.{isType, untyped, bare, ⌊_⌋, bareTree}
 use Rattle.derivation_meaning.specs.Notions.{IsFormula, IsTerm}
 use Rattle.derivation_meaning.specs.EraseLaws.{bare-cases, formula-erase}

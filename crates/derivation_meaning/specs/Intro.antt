@@ -9,7 +9,7 @@ use Rattle.reader.specs.Words.{Reader}
 use Rattle.reader.specs.Trees.{Tree, lower}
 use Rattle.reader.specs.Chains.{items, parts, premises}
 use Rattle.reader.specs.Laws.{items-zero, items-step}
-use Rattle.accepted.specs.Scan.{when-less}
+use Rattle.reader_laws.specs.Scan.{when-less}
 use Rattle.derivation_rules.specs.Erase.{bareTree, bareParts}
 use Rattle.derivation_rules.specs.Rules.{_▹_}
 use Rattle.derivation_meaning.specs.Notions.{_∈_, here, there}

@@ -13,9 +13,9 @@ use Rattle.reader.specs.Answers.{accepted}
 use Rattle.reader.specs.Places.{hypothesisChain, rootOf, reading}
 use Rattle.reader.specs.Walk.{walkNode}
 use Rattle.reader.specs.Meaning.{sound}
-use Rattle.accepted.specs.Scan.{orAnswer-parts, orAnswer-join}
-use Rattle.accepted.specs.File.{beside, ReadObligation, ReadSecond, reading-parts, reading-join}
-use Rattle.accepted.specs.Pair.{header-kind, pair-hypotheses-limit}
+use Rattle.reader_laws.specs.Scan.{orAnswer-parts, orAnswer-join}
+use Rattle.reader_laws.specs.File.{beside, ReadObligation, ReadSecond, reading-parts, reading-join}
+use Rattle.reader_laws.specs.Pair.{header-kind, pair-hypotheses-limit}
 use Rattle.derivation_rules.specs.Erase.{bareTree}
 use Rattle.derivation_rules.specs.Rules.{sequent}
 use Rattle.derivation_rules.specs.Check.{nodeFault, premiseState, hypotheses, goalOf, startSequent, derivationWalk, derivationAnswer}

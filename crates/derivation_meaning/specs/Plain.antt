@@ -14,7 +14,7 @@ use Rattle.reader.specs.Trees.{Tree, leaf, node, lower, child, atom, tree, kind
 use Rattle.reader.specs.Chains.{parts}
 use Rattle.reader.specs.Places.{negatedGoal}
 use Rattle.reader.specs.Laws.{below, child-below, tree-zero, tree-step}
-use Rattle.accepted.specs.Scan.{when-less}
+use Rattle.reader_laws.specs.Scan.{when-less}
 use Rattle.derivation_rules.specs.Erase.{isType, untyped, bare, ⌊_⌋, bareTree, bareParts}
 use Rattle.derivation_rules.specs.Check.{goalOf}
 use Rattle.derivation_meaning.specs.Notions.{_∈_, here, there, constantᵗ, allᵗ}

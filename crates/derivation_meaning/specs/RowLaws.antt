@@ -15,7 +15,7 @@ use Rattle.reader.specs.Variables.{indicesBelow, occurs}
 use Rattle.reader.specs.Shapes.{Shape, ofClass, ofKind, hasShape, haveShapes}
 use Rattle.reader.specs.Laws.{same-equal, same-self}
 use Rattle.reader.specs.Meaning.{Each}
-use Rattle.accepted.specs.Scan.{both-parts, both-join, demand-parts, demand-join}
+use Rattle.reader_laws.specs.Scan.{both-parts, both-join, demand-parts, demand-join}
 use Rattle.derivation_rules.specs.Erase.{bareParts}
 use Rattle.derivation_rules.specs.Rules.{Sequent, Row}
 use Rattle.derivation_rules.specs.Check.{member, goalFormed, premisesFit, needsMet, noOther, isFresh, hasRoom, depthFits, rowFault}

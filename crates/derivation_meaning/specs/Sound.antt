@@ -15,7 +15,7 @@ use Rattle.reader.specs.Chains.{premises}
 use Rattle.reader.specs.Shapes.{Shape, negated, hasShape, haveShapes, term, formula, constant, conjunction, implication, universal, equation}
 use Rattle.reader.specs.Laws.{same-equal}
 use Rattle.reader.specs.Meaning.{Closed}
-use Rattle.accepted.specs.Scan.{both-parts}
+use Rattle.reader_laws.specs.Scan.{both-parts}
 use Rattle.derivation_rules.specs.Erase.{bareParts}
 use Rattle.derivation_rules.specs.Rules.{Row, negation, falsity, row}
 use Rattle.derivation_rules.specs.Check.{rowOf, nodeFault, premiseState}

@@ -10,11 +10,11 @@ use Rattle.reader.specs.Trees.{Tree, leaf, tree, kindOf, firstOf, ¬ᵗ_}
 use Rattle.reader.specs.Chains.{items, itemTrees}
 use Rattle.reader.specs.Variables.{indicesBelow}
 use Rattle.reader.specs.Places.{hypothesisChain, negatedGoal, hypothesisFits}
-use Rattle.accepted.specs.Scan.{every-head}
-use Rattle.accepted.specs.Parts.{not-first}
-use Rattle.accepted.specs.Classes.{class-of-kind}
-use Rattle.accepted.specs.File.{beside, lastOf, ReadObligation, ReadSecond, closed-parts, hypothesis-parts}
-use Rattle.accepted.specs.Pair.{header-kind, beside-past, pair-sound, obligation-sound, pair-goal-range, pair-goal-kind, pair-goal-closed, pair-goal-tree, pair-hypotheses}
+use Rattle.reader_laws.specs.Scan.{every-head}
+use Rattle.reader_laws.specs.Parts.{not-first}
+use Rattle.reader_laws.specs.Classes.{class-of-kind}
+use Rattle.reader_laws.specs.File.{beside, lastOf, ReadObligation, ReadSecond, closed-parts, hypothesis-parts}
+use Rattle.reader_laws.specs.Pair.{header-kind, beside-past, pair-sound, obligation-sound, pair-goal-range, pair-goal-kind, pair-goal-closed, pair-goal-tree, pair-hypotheses}
 use Rattle.derivation_rules.specs.Erase.{⌊_⌋, bareTree}
 use Rattle.derivation_rules.specs.Check.{hypotheses, goalOf}
 use Rattle.derivation_meaning.specs.Notions.{_∈_, here, there, Closed}

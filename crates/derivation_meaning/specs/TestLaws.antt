@@ -11,7 +11,7 @@ use Rattle.reader.specs.Tests.{both, either, every}
 use Rattle.reader.specs.Trees.{Tree, leaf, node, same}
 use Rattle.reader.specs.Variables.{binders, isBound, indicesBelow, isConstant, occurs}
 use Rattle.reader.specs.Laws.{same-equal, same-self}
-use Rattle.accepted.specs.Scan.{both-parts, both-join, either-parts}
+use Rattle.reader_laws.specs.Scan.{both-parts, both-join, either-parts}
 use Rattle.derivation_rules.specs.Check.{member}
 use Rattle.derivation_meaning.specs.Notions.{_∈_, here, there, Free, Stands, Occurs}
 

@@ -1,16 +1,3 @@
-pub mod RowLaws
-pub mod Frames
-pub mod Pushed
-pub mod Tables
-pub mod Forms
-pub mod Premises
-pub mod Formed
-pub mod Members
-pub mod Listed
-pub mod Needs
-pub mod Filled
-pub mod Fits
-pub mod Fresh
+pub mod Premised
 pub mod Rooms
 pub mod Nodes
-pub mod Premised

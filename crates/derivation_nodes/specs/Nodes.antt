@@ -14,15 +14,15 @@ use Rattle.reader.specs.Shapes.{haveShapes}
 use Rattle.derivation_rules.specs.Erase.{bareParts}
 use Rattle.derivation_rules.specs.Rules.{Sequent, Row, row}
 use Rattle.derivation_rules.specs.Check.{goalFormed, premisesFit, needsMet, noOther, isFresh, hasRoom, depthFits, rowFault, rowOf, nodeFault}
-use Rattle.bare.specs.Keys.{decoded}
-use Rattle.bare.specs.Replaced.{Tables}
-use Rattle.derivation_nodes.specs.RowLaws.{by-rule}
-use Rattle.derivation_nodes.specs.Frames.{goalAt, countAt, membersAt, stateOf, Framed}
-use Rattle.derivation_nodes.specs.Tables.{column, column-none, count-is}
-use Rattle.derivation_nodes.specs.Formed.{partsFormed, goalShaped, parts-formed, goal-shaped}
-use Rattle.derivation_nodes.specs.Needs.{At, needsHeld, onlyGoals, needs-held, only-goals}
-use Rattle.derivation_nodes.specs.Fits.{nodeFits, node-fits}
-use Rattle.derivation_nodes.specs.Fresh.{nodeFresh, node-fresh}
+use Rattle.derivation_trees.specs.Keys.{decoded}
+use Rattle.derivation_replacement.specs.Replaced.{Tables}
+use Rattle.derivation_tables.specs.RowLaws.{by-rule}
+use Rattle.derivation_frames.specs.Frames.{goalAt, countAt, membersAt, stateOf, Framed}
+use Rattle.derivation_tables.specs.Tables.{column, column-none, count-is}
+use Rattle.derivation_forms.specs.Formed.{partsFormed, goalShaped, parts-formed, goal-shaped}
+use Rattle.derivation_members.specs.Needs.{At, needsHeld, onlyGoals, needs-held, only-goals}
+use Rattle.derivation_fits.specs.Fits.{nodeFits, node-fits}
+use Rattle.derivation_fits.specs.Fresh.{nodeFresh, node-fresh}
 use Rattle.derivation_nodes.specs.Rooms.{nodeRoom, node-room}
 
 -- the tables beside the frames

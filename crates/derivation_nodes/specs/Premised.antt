@@ -18,12 +18,12 @@ use Rattle.reader.specs.Shapes.{haveShapes}
 use Rattle.derivation_rules.specs.Erase.{bareTree, bareParts}
 use Rattle.derivation_rules.specs.Rules.{Sequent, sequent, Row, row, premise}
 use Rattle.derivation_rules.specs.Check.{goalFormed, premisesFit, needsMet, noOther, isFresh, hasRoom, depthFits, rowFault, rowOf, nodeFault, premiseState}
-use Rattle.bare.specs.Keys.{negationsOf, decoded, Normal, Stands}
-use Rattle.derivation_nodes.specs.Frames.{startAt, goalAt, entryAt, countAt, addedBy, chainTrees, membersAt, stateOf, Framed, Kept, Written}
-use Rattle.derivation_nodes.specs.Pushed.{written-kept, members-added, framed-added, members-set, framed-set}
-use Rattle.derivation_nodes.specs.Tables.{column, grown, formTree, premisesFrom, premises-are}
-use Rattle.derivation_nodes.specs.Forms.{Given, Formed, lower-most}
-use Rattle.derivation_nodes.specs.Needs.{At}
+use Rattle.derivation_trees.specs.Keys.{negationsOf, decoded, Normal, Stands}
+use Rattle.derivation_frames.specs.Frames.{startAt, goalAt, entryAt, countAt, addedBy, chainTrees, membersAt, stateOf, Framed, Kept, Written}
+use Rattle.derivation_frames.specs.Pushed.{written-kept, members-added, framed-added, members-set, framed-set}
+use Rattle.derivation_tables.specs.Tables.{column, grown, formTree, premisesFrom, premises-are}
+use Rattle.derivation_forms.specs.Forms.{Given, Formed, lower-most}
+use Rattle.derivation_members.specs.Needs.{At}
 
 -- what the walk takes from a node's tests
 pub record Passed (rd : Reader) (st : Sequent) (n : ℕ) : Type 0 where

@@ -14,8 +14,8 @@ use Rattle.reader.specs.Chains.{linked, items, parts}
 use Rattle.derivation_rules.specs.Erase.{bareTree, bareParts}
 use Rattle.derivation_rules.specs.Rules.{Sequent, Row, row, at, noRow}
 use Rattle.derivation_rules.specs.Check.{hasRoom}
-use Rattle.derivation_nodes.specs.RowLaws.{row-none, by-rule}
-use Rattle.derivation_nodes.specs.Tables.{column, column-none}
+use Rattle.derivation_tables.specs.RowLaws.{row-none, by-rule}
+use Rattle.derivation_tables.specs.Tables.{column, column-none}
 
 -- the premises of node n have room beside h members; those of BR2 are its parts
 unfoldable pub nodeRoom : Reader → ℕ → ℕ → Bool

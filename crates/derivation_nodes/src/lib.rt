@@ -1,14 +1,3 @@
-// Refusals 13 to 18 of a derivation, node by node.
-pub mod filled;
-pub mod fits;
-pub mod formed;
-pub mod forms;
-pub mod frames;
-pub mod fresh;
-pub mod listed;
-pub mod members;
-pub mod needs;
+// A derivation node's refusal, 13 to 18, and what its premises are to derive.
 pub mod nodes;
-pub mod premises;
 pub mod push;
-pub mod tables;

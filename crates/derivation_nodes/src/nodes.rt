@@ -1,11 +1,11 @@
 // The refusal of a node at its depth: 13 to 18, the lower number first.
-use crate::fits;
-use crate::formed;
-use crate::frames;
-use crate::fresh;
-use crate::needs;
-use crate::premises;
-use crate::tables;
+use derivation_fits::fits;
+use derivation_fits::fresh;
+use derivation_forms::formed;
+use derivation_forms::premises;
+use derivation_frames::frames;
+use derivation_members::needs;
+use derivation_tables::tables;
 use reader::chains;
 use reader::trees;
 use reader::words;
@@ -13,12 +13,12 @@ ghost use mathlib.Core.Path.{_≡_};
 ghost use Prim.Native.Nat.{_≤_};
 ghost use lib.ListN.{length};
 ghost use Rattle.reader.specs.Words.{word};
-ghost use Rattle.bare.specs.Keys.{decoded};
-ghost use Rattle.bare.specs.Replaced.{Tables};
+ghost use Rattle.derivation_trees.specs.Keys.{decoded};
+ghost use Rattle.derivation_replacement.specs.Replaced.{Tables};
 ghost use Rattle.derivation_rules.specs.Check.{nodeFault};
-ghost use Rattle.derivation_nodes.specs.Frames.{goalAt, membersAt, stateOf};
-ghost use Rattle.derivation_nodes.specs.Needs.{At};
-ghost use Rattle.derivation_nodes.specs.Fits.{nodeFits};
+ghost use Rattle.derivation_frames.specs.Frames.{goalAt, membersAt, stateOf};
+ghost use Rattle.derivation_members.specs.Needs.{At};
+ghost use Rattle.derivation_fits.specs.Fits.{nodeFits};
 ghost use Rattle.derivation_nodes.specs.Rooms.{nodeRoom};
 ghost use Rattle.derivation_nodes.specs.Nodes.{Ready, membersFit, goalFits, premisesAt, formFault, fitFault};
 

@@ -1,7 +1,7 @@
 // What a node hands to its premises: the frame of the next depth.
-use crate::forms;
-use crate::frames;
-use crate::tables;
+use derivation_forms::forms;
+use derivation_frames::frames;
+use derivation_tables::tables;
 use reader::trees;
 use reader::words;
 ghost use mathlib.Core.Path.{_≡_};
@@ -9,8 +9,8 @@ ghost use Prim.Native.Nat.{_<_};
 ghost use lib.ListN.{length};
 ghost use Rattle.reader.specs.Words.{word};
 ghost use Rattle.reader.specs.Chains.{linked};
-ghost use Rattle.derivation_nodes.specs.Frames.{stateOf};
-ghost use Rattle.derivation_nodes.specs.Needs.{At};
+ghost use Rattle.derivation_frames.specs.Frames.{stateOf};
+ghost use Rattle.derivation_members.specs.Needs.{At};
 ghost use Rattle.derivation_nodes.specs.Premised.{Passed, Premised, premiseCount};
 
 // How many links chain c has.

@@ -16,17 +16,17 @@ use Rattle.reader.specs.Chains.{linked, itemTrees}
 use Rattle.reader.specs.Laws.{lower-below, linked-step}
 use Rattle.reader.specs.Answers.{orAnswer}
 use Rattle.reader.specs.Places.{mostRecords, hypothesisChain, negatedGoal, countOf, rootOf, reading}
-use Rattle.typing.specs.Chains.{trees-zero, trees-step}
-use Rattle.equality.specs.Least.{Numbered}
-use Rattle.accepted.specs.File.{ReadObligation, ReadSecond, beside, lastOf, reading-parts, length-parts, header-parts, counts-parts}
-use Rattle.accepted.specs.Pair.{root-range, pair-goal-range, pair-hypotheses-range, pair-hypotheses-limit}
-use Rattle.accepted.specs.Under.{under, root-under}
+use Rattle.reader_chains.specs.Chains.{trees-zero, trees-step}
+use Rattle.reader_equality.specs.Least.{Numbered}
+use Rattle.reader_laws.specs.File.{ReadObligation, ReadSecond, beside, lastOf, reading-parts, length-parts, header-parts, counts-parts}
+use Rattle.reader_laws.specs.Pair.{root-range, pair-goal-range, pair-hypotheses-range, pair-hypotheses-limit}
+use Rattle.reader_laws.specs.Under.{under, root-under}
 use Rattle.proof_rules.specs.Check.{nodeFault, premiseSequent, startSequent, proofWalk, proofAnswer}
-use Rattle.members.specs.Makers.{Table}
-use Rattle.members.specs.Sequents.{sequent, Keys, Ready}
-use Rattle.members.specs.Added.{Added}
-use Rattle.proof_check.specs.Nodes.{At}
-use Rattle.proof_check.specs.Walked.{visit}
+use Rattle.proof_members.specs.Makers.{Table}
+use Rattle.proof_members.specs.Sequents.{sequent, Keys, Ready}
+use Rattle.proof_members.specs.Added.{Added}
+use Rattle.proof_nodes.specs.Nodes.{At}
+use Rattle.proof_walk.specs.Walked.{visit}
 
 -- the numbers are there, the memory is empty, and the obligation's header names what it should
 pub record Starting (rd : Reader) (numbers memory : List ℕ) : Type 0 where

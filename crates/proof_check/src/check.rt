@@ -1,18 +1,18 @@
 // The proof check of two byte areas.
 use crate::start;
-use crate::walk;
-use closedness::fill::reach_all;
-use equality::numbers::number_all;
+use proof_walk::walk;
 use reader::Answer;
 use reader::words;
-use reading::places;
+use reader_closedness::fill::reach_all;
+use reader_equality::numbers::number_all;
+use reader_places::places;
 ghost use mathlib.Core.Path.{_≡_};
 ghost use Prim.Native.Nat.{_+_, _≤_};
 ghost use lib.ListN.{length};
 ghost use Rattle.reader.specs.declared.Answer.{Answer};
 ghost use Rattle.reader.specs.Words.{word};
 ghost use Rattle.reader.specs.Places.{countOf, rootOf, reading};
-ghost use Rattle.equality.specs.Least.{Numbered};
+ghost use Rattle.reader_equality.specs.Least.{Numbered};
 ghost use Rattle.proof_rules.specs.Check.{proofWalk, proofAnswer};
 ghost use Rattle.proof_check.specs.Started.{Entering};
 

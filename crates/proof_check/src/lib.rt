@@ -1,6 +1,3 @@
 // The proof check: any two byte areas get the four numbers of the definition.
 pub mod check;
-pub mod entries;
-pub mod nodes;
 pub mod start;
-pub mod walk;

@@ -1,5 +1,5 @@
 // "The sequent starts as the hypotheses and the negated goal."
-use members::add;
+use proof_members::add;
 use reader::trees;
 use reader::words;
 ghost use mathlib.Core.Path.{_≡_};
@@ -9,7 +9,7 @@ ghost use Rattle.reader.specs.Words.{word};
 ghost use Rattle.reader.specs.Chains.{itemTrees};
 ghost use Rattle.reader.specs.Places.{hypothesisChain};
 ghost use Rattle.proof_rules.specs.Check.{startSequent};
-ghost use Rattle.members.specs.Sequents.{sequent, Ready};
+ghost use Rattle.proof_members.specs.Sequents.{sequent, Ready};
 ghost use Rattle.proof_check.specs.Started.{Starting};
 
 // Adds the hypotheses to an empty sequent; their number.

@@ -1,6 +1,6 @@
 use borrow.Author.Needs.{needs}
 use native.Mathlib.Omega.{arith}
-use Rattle.derivation_nodes.specs.Needs.{goal-normal}
+use Rattle.derivation_members.specs.Needs.{goal-normal}
 use Rattle.derivation_nodes.specs.Nodes.{goal-fits}
 use Rattle.derivation_nodes.proofs.nodes.goal_fits.Statement.{statement}
 use Rattle.derivation_nodes.proofs.nodes.goal_fits.Tie as tie

@@ -1,6 +1,6 @@
 use borrow.Author.Needs.{needs}
 use native.Mathlib.Omega.{arith}
-use Rattle.derivation_nodes.specs.Needs.{at-given}
+use Rattle.derivation_members.specs.Needs.{at-given}
 use Rattle.derivation_nodes.specs.Nodes.{fits-at}
 use Rattle.derivation_nodes.proofs.nodes.parts_fit.Statement.{statement}
 use Rattle.derivation_nodes.proofs.nodes.parts_fit.Tie as tie

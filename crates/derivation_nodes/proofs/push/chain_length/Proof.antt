@@ -5,7 +5,7 @@ use mathlib.Core.Path.{_≡_, refl}
 use lib.ListN.{length}
 use Rattle.reader.specs.Words.{word}
 use Rattle.reader.specs.Chains.{linked}
-use Rattle.derivation_nodes.specs.Formed.{rest-falls}
+use Rattle.derivation_forms.specs.Formed.{rest-falls}
 use Rattle.derivation_nodes.specs.Premised.{length-turn, length-end, length-low}
 use Rattle.derivation_nodes.proofs.push.chain_length.Statement.{statement}
 use Rattle.derivation_nodes.proofs.push.chain_length.Tie as tie

@@ -2,7 +2,7 @@ use borrow.Author.Needs.{needs}
 use native.Mathlib.Omega.{arith}
 use Prim.Native.Nat.{_<_}
 use mathlib.Core.Path.{sym, _∙_}
-use Rattle.derivation_nodes.specs.Needs.{at-given}
+use Rattle.derivation_members.specs.Needs.{at-given}
 use Rattle.derivation_nodes.specs.Premised.{premise-low, next-in, key-small, premised-none, premised-one}
 use Rattle.derivation_nodes.proofs.push.push_premise.Statement.{statement}
 use Rattle.derivation_nodes.proofs.push.push_premise.Tie as tie

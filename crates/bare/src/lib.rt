@@ -1,9 +1,0 @@
-// Formulas and terms without types, each as one number: equal trees have equal numbers, and all that the derivation check asks of a tree is
-// answered from its number.
-pub mod closed;
-pub mod fill;
-pub mod keys;
-pub mod marks;
-pub mod parts;
-pub mod replace;
-pub mod shapes;

@@ -1,0 +1,3 @@
+// How far the indices of trees without types reach, and which records a constant occurs in.
+pub mod closed;
+pub mod marks;

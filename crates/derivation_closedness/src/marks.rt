@@ -1,0 +1,148 @@
+// Occurrence: is a constant in a tree? The records from the constant's on are marked first, each once, so that shared records are not visited again.
+use reader::trees;
+use reader::words;
+use reader_equality::keys::part_at;
+ghost use mathlib.Core.Path.{_≡_};
+ghost use Prim.Native.Nat.{_+_, _<_, _≤_};
+ghost use lib.ListN.{length};
+ghost use Rattle.reader.specs.Words.{word};
+ghost use Rattle.reader.specs.Variables.{occurs};
+ghost use Rattle.derivation_rules.specs.Erase.{bareTree};
+ghost use Rattle.derivation_trees.specs.Keys.{decoded, Normal};
+ghost use Rattle.derivation_closedness.specs.Marks.{Marked, Unmarked, markOf, constantAt, partMarked, nodeMarked};
+
+// Is constant c in record x, by the marks of the records below n?
+fn is_marked(
+    obligation: &[u8],
+    second: &[u8],
+    m: usize,
+    marks: &[u8],
+    c: usize,
+    n: usize,
+    x: usize,
+) -> bool
+    requires { ⌜ (n ≤ length (now marks)) × (x < n) × Marked (word (now obligation) (now second) m) c (now marks) n ⌝ }
+    ensures { λ r. ⌜ r ≡ occurs c (bareTree (word (now (obligation .entry)) (now (second .entry)) m) x) ⌝ }
+{
+    if x < c {
+        return false;
+    }
+    marks[x] == 1
+}
+
+// Is constant c in part w of record j, whose kind is k?
+fn part_marked(
+    obligation: &[u8],
+    second: &[u8],
+    m: usize,
+    marks: &[u8],
+    c: usize,
+    j: usize,
+    k: usize,
+    w: u8,
+) -> bool
+    requires { ⌜ (k ≡ word (now obligation) (now second) m j 0) × (0 < j) × (j ≤ length (now marks)) × Marked (word (now obligation) (now second) m) c (now marks) j ⌝ }
+    ensures { λ r. ⌜ r ≡ partMarked (word (now (obligation .entry)) (now (second .entry)) m) c j w ⌝ }
+{
+    let x = part_at(obligation, second, m, false, j, k, w);
+    is_marked(obligation, second, m, marks, c, j, x)
+}
+
+// Is record j, whose kind is k, the constant c?
+fn is_constant(obligation: &[u8], second: &[u8], m: usize, c: usize, j: usize, k: usize) -> bool
+    requires { ⌜ k ≡ word (now obligation) (now second) m j 0 ⌝ }
+    ensures { λ r. ⌜ r ≡ constantAt (word (now (obligation .entry)) (now (second .entry)) m) c j ⌝ }
+{
+    if j != c {
+        return false;
+    }
+    k == 7
+}
+
+// Is record j, whose kind is k, the constant c, or c in a part of it?
+fn node_marked(
+    obligation: &[u8],
+    second: &[u8],
+    m: usize,
+    marks: &[u8],
+    c: usize,
+    j: usize,
+    k: usize,
+) -> bool
+    requires { ⌜ (k ≡ word (now obligation) (now second) m j 0) × (0 < j) × (j ≤ length (now marks)) × Marked (word (now obligation) (now second) m) c (now marks) j ⌝ }
+    ensures { λ r. ⌜ r ≡ nodeMarked (word (now (obligation .entry)) (now (second .entry)) m) c j ⌝ }
+{
+    if is_constant(obligation, second, m, c, j, k) {
+        return true;
+    }
+    if part_marked(obligation, second, m, marks, c, j, k, 1) {
+        return true;
+    }
+    if part_marked(obligation, second, m, marks, c, j, k, 2) {
+        return true;
+    }
+    part_marked(obligation, second, m, marks, c, j, k, 3)
+}
+
+// Is constant c in record j, by the marks of the smaller records?
+fn is_in(obligation: &[u8], second: &[u8], m: usize, marks: &[u8], c: usize, j: usize) -> bool
+    requires { ⌜ (j ≤ length (now marks)) × Marked (word (now obligation) (now second) m) c (now marks) j ⌝ }
+    ensures { λ r. ⌜ r ≡ occurs c (bareTree (word (now (obligation .entry)) (now (second .entry)) m) j) ⌝ }
+{
+    if j == 0 {
+        return false;
+    }
+    let k = words::word_at(obligation, second, m, j, 0);
+    if k == 15 {
+        return false;
+    }
+    if k == 22 {
+        let x = trees::child_at(obligation, second, m, j, 2);
+        return is_marked(obligation, second, m, marks, c, j, x);
+    }
+    node_marked(obligation, second, m, marks, c, j, k)
+}
+
+// The mark of record j: 1 where constant c is in it.
+fn mark_of(obligation: &[u8], second: &[u8], m: usize, marks: &[u8], c: usize, j: usize) -> u8
+    requires { ⌜ (j ≤ length (now marks)) × Marked (word (now obligation) (now second) m) c (now marks) j ⌝ }
+    ensures { λ r. ⌜ r ≡ markOf (occurs c (bareTree (word (now (obligation .entry)) (now (second .entry)) m) j)) ⌝ }
+{
+    if is_in(obligation, second, m, marks, c, j) {
+        1
+    } else {
+        0
+    }
+}
+
+// Marks the records from c on, below n; the other marks stay.
+pub fn mark_all(obligation: &[u8], second: &[u8], m: usize, marks: &mut [u8], c: usize, n: usize)
+    requires { ⌜ n ≤ length (now marks) ⌝ }
+    ensures { λ _. ⌜ Marked (word (now (obligation .entry)) (now (second .entry)) m) c (now (marks .exit)) n × Unmarked c n (now (marks .entry)) (now (marks .exit)) ⌝ }
+{
+    let mut j = c;
+    while j < n {
+        marks[j] = mark_of(obligation, second, m, marks, c, j);
+        j += 1;
+    }
+}
+
+// Is constant c in the tree with this key, by the marks of all records that have keys?
+pub fn key_marked(
+    obligation: &[u8],
+    second: &[u8],
+    m: usize,
+    keys: &[usize],
+    marks: &[u8],
+    c: usize,
+    key: usize,
+) -> bool
+    requires { ⌜ Normal (word (now obligation) (now second) m) (length (now keys)) key × (length (now keys) ≤ length (now marks)) × Marked (word (now obligation) (now second) m) c (now marks) (length (now keys)) ⌝ }
+    ensures { λ r. ⌜ r ≡ occurs c (decoded (word (now (obligation .entry)) (now (second .entry)) m) key) ⌝ }
+{
+    let body = key % 262144;
+    if body < 2 {
+        return false;
+    }
+    is_marked(obligation, second, m, marks, c, keys.len(), body - 1)
+}

@@ -1,0 +1,176 @@
+-- The form of the parts of a node and of its goal, and the ways out of the code that tests them.
+use Prim.Native.Nat.{ℕ, zero, suc, _-_, _/_, _%_, _<_, _≤_}
+use mathlib.Core.Path.{_≡_, refl, sym, ap, _∙_}
+use mathlib.Core.List.{List, [], _∷_, map}
+use mathlib.Core.Bool.{Bool, true, false, not}
+use lib.Dec.{eqb, eqb·suc-zero}
+use lib.ListN.{length, replicate}
+use native.Mathlib.Omega.{arith}
+use borrow.Author.Tests.{eq-eqb, ne-eqb, eqb-true, eqb-false, not-true, not-false}
+use Rattle.reader.specs.Words.{Reader}
+use Rattle.reader.specs.Tests.{both, every, ifEq, ifLt, eq-no}
+use Rattle.reader.specs.Down.{Local, down, down-zero, down-step}
+use Rattle.reader.specs.Trees.{Tree, lower}
+use Rattle.reader.specs.Chains.{items, parts}
+use Rattle.reader.specs.Laws.{lower-below, items-zero, items-step}
+use Rattle.reader.specs.Shapes.{Shape, ofClass, formula, hasShape, haveShapes}
+use Rattle.derivation_rules.specs.Erase.{bareTree, bareParts}
+use Rattle.derivation_rules.specs.Rules.{Sequent, Row, row}
+use Rattle.derivation_rules.specs.Check.{goalFormed}
+use Rattle.derivation_trees.specs.Keys.{decoded, Normal, Stands}
+use Rattle.derivation_trees.specs.Table.{Table, KeyOf}
+use Rattle.derivation_trees.specs.Shapes.{shapeOf}
+use Rattle.derivation_frames.specs.Frames.{chainTrees}
+use Rattle.derivation_forms.specs.Forms.{lower-most}
+use Rattle.derivation_tables.specs.Tables.{shapesStep, shapesOf, column, oneOf, shapes-are, goal-shapes-are}
+
+-- a formula
+unfoldable pub isFormula : Tree → Bool
+isFormula t = hasShape (shapeOf 37) t
+
+-- the parts of node n have the number, classes and forms of its rule
+unfoldable pub partsFormed : Reader → ℕ → Bool
+partsFormed rd n = ifEq (rd n 0) 65 (every isFormula (bareParts rd n)) (haveShapes (shapesOf (column (rd n 0) 0)) (bareParts rd n))
+
+-- the goal has the form that rule k shows, where it shows one
+unfoldable pub goalShaped : ℕ → Tree → Bool
+goalShaped k goal = ifEq (column k 1) 0 true (hasShape (shapeOf (column k 1)) goal)
+
+formulas-are : (ps : List Tree) → haveShapes (replicate (length ps) formula) ps ≡ every isFormula ps
+unfolding haveShapes every isFormula shapeOf ifLt both
+formulas-are [] = refl
+formulas-are (p ∷ ps) = ap (both (hasShape formula p)) (formulas-are ps)
+
+shapes-65 : (ps : List Tree) (st : Sequent) → row 65 ps st .shapes ≡ replicate (length ps) formula
+unfolding row ifEq
+shapes-65 ps st = refl
+
+-- the rows say the same
+pub parts-formed : (rd : Reader) (n : ℕ) (st : Sequent) → partsFormed rd n ≡ haveShapes (row (rd n 0) (bareParts rd n) st .shapes) (bareParts rd n)
+unfolding partsFormed ifEq
+parts-formed rd n st = go (rd n 0) (bareParts rd n)
+  where
+    go : (k : ℕ) (ps : List Tree) → ifEq k 65 (every isFormula ps) (haveShapes (shapesOf (column k 0)) ps) ≡ haveShapes (row k ps st .shapes) ps
+    go k ps = by (eqb k 65) refl
+      where
+        by : (b : Bool) → eqb k 65 ≡ b → elim b as (λ x. Bool) [ true ↦ every isFormula ps | false ↦ haveShapes (shapesOf (column k 0)) ps ] ≡ haveShapes (row k ps st .shapes) ps
+        by true e = rw (eqb-true k 65 e, shapes-65 ps st) (sym (formulas-are ps))
+        by false e = rw (shapes-are ps st k (eqb-false k 65 e)) refl
+
+pub goal-shaped : (k : ℕ) (ps : List Tree) (st : Sequent) (goal : Tree) → goalShaped k goal ≡ goalFormed (row k ps st .goalShapes) goal
+unfolding goalShaped goalFormed oneOf ifEq every
+goal-shaped k ps st goal = rw (goal-shapes-are ps st k) (go (column k 1))
+  where
+    once : (b : Bool) → b ≡ elim b as (λ x. Bool) [ true ↦ true | false ↦ false ]
+    once true = refl
+    once false = refl
+
+    go : (s : ℕ) → ifEq s 0 true (hasShape (shapeOf s) goal) ≡ every (λ u. hasShape u goal) (ifEq s 0 [] (shapeOf s ∷ []))
+    go zero = refl
+    go (suc s) = simp (ifEq, ne-eqb (suc s) 0 (λ z. omega arith)) (once (hasShape (shapeOf (suc s)) goal))
+
+-- the items of a chain one by one
+module _ (rd : Reader) where
+  pub chain-zero : chainTrees rd 0 ≡ []
+  unfolding chainTrees
+  chain-zero = rw (items-zero rd)
+
+  pub chain-step : (c : ℕ) → 0 < c → chainTrees rd c ≡ bareTree rd (lower rd c 1) ∷ chainTrees rd (lower rd c 3)
+  unfolding chainTrees
+  chain-step c h = rw (items-step rd c h)
+
+-- a link's item and the next link are smaller records
+pub item-in : (rd : Reader) (c item size : ℕ) → (c ≡ 0 → ⊥) → item ≡ lower rd c 1 → c < size → item < size
+item-in rd c item size h e p = omega (arith, lower-below rd c 1 (omega arith))
+
+pub rest-in : (rd : Reader) (c rest size : ℕ) → (c ≡ 0 → ⊥) → rest ≡ lower rd c 3 → c < size → rest < size
+rest-in rd c rest size h e p = omega (arith, lower-below rd c 3 (omega arith))
+
+pub rest-most : (rd : Reader) (c rest top : ℕ) → (c ≡ 0 → ⊥) → rest ≡ lower rd c 3 → c ≤ top → rest ≤ top
+rest-most rd c rest top h e p = omega (arith, lower-below rd c 3 (omega arith))
+
+pub item-falls : (rd : Reader) (c item : ℕ) → (c ≡ 0 → ⊥) → item ≡ lower rd c 1 → item < c
+item-falls rd c item h e = omega (arith, lower-below rd c 1 (omega arith))
+
+pub rest-falls : (rd : Reader) (c rest : ℕ) → (c ≡ 0 → ⊥) → rest ≡ lower rd c 3 → rest < c
+rest-falls rd c rest h e = omega (arith, lower-below rd c 3 (omega arith))
+
+pub key-normal : (rd : Reader) (size x : ℕ) (t : Tree) → KeyOf rd size x t → Normal rd size x
+key-normal rd size x t k = k .stands .normal
+
+-- a test made on an item's key is made on the item's tree
+pub key-shape : (rd : Reader) (size x : ℕ) (t : Tree) (s : Shape) (r : Bool) → KeyOf rd size x t → r ≡ hasShape s (decoded rd x) → r ≡ hasShape s t
+key-shape rd size x t s r k e = rw (← k .stands .means) e
+
+-- The ways out of `have_shapes`.
+shapes-local : Local shapesStep
+unfolding shapesStep
+shapes-local f g s p h = rw (h (s / 256) (omega arith))
+
+shapes-step : (s : ℕ) → 0 < s → shapesOf s ≡ shapeOf (s % 256) ∷ shapesOf (s / 256)
+unfolding shapesOf shapesStep
+shapes-step s p = down-step [] shapesStep shapes-local s p
+
+shapes-zero : shapesOf 0 ≡ []
+unfolding shapesOf
+shapes-zero = down-zero [] shapesStep
+
+module _ (rd : Reader) (c code : ℕ) where
+  pub shapes-end : c ≡ 0 → eqb code 0 ≡ haveShapes (shapesOf code) (chainTrees rd c)
+  unfolding haveShapes
+  shapes-end h = rw (h, chain-zero rd) (go code)
+    where
+      go : (n : ℕ) → eqb n 0 ≡ haveShapes (shapesOf n) []
+      go zero = rw shapes-zero refl
+      go (suc n) = rw (shapes-step (suc n) (omega arith)) (eqb·suc-zero n)
+
+  pub shapes-over : (c ≡ 0 → ⊥) → code ≡ 0 → false ≡ haveShapes (shapesOf code) (chainTrees rd c)
+  unfolding haveShapes
+  shapes-over h z = rw (z, chain-step rd c (omega arith), shapes-zero) refl
+
+  module _ (given : c ≡ 0 → ⊥) (wanted : code ≡ 0 → ⊥) (item rest : ℕ) (ei : item ≡ lower rd c 1) (er : rest ≡ lower rd c 3) where
+    pub shapes-more : (r : Bool) → r ≡ both (hasShape (shapeOf (code % 256)) (bareTree rd item)) (haveShapes (shapesOf (code / 256)) (chainTrees rd rest)) →
+        r ≡ haveShapes (shapesOf code) (chainTrees rd c)
+    unfolding haveShapes both
+    shapes-more r e = rw (shapes-step code (omega arith), chain-step rd c (omega arith), ← ei, ← er) e
+
+-- The ways out of a loop along a chain that makes a test on each item.
+module _ (rd : Reader) (test : Tree → Bool) (c l : ℕ) (inv : every test (chainTrees rd c) ≡ every test (chainTrees rd l)) where
+  pub chain-end : l ≡ 0 → true ≡ every test (chainTrees rd c)
+  unfolding every
+  chain-end h = rw (inv, h, chain-zero rd) refl
+
+  module _ (given : l ≡ 0 → ⊥) (item : ℕ) (ei : item ≡ lower rd l 1) (r : Bool) (er : r ≡ test (bareTree rd item)) where
+    pub chain-stop : not r ≡ true → false ≡ every test (chainTrees rd c)
+    unfolding every
+    chain-stop h = rw (inv, chain-step rd l (omega arith), ← ei) (simp (every, ← er, not-true r h))
+
+    pub chain-more : not r ≡ false → (rest : ℕ) → rest ≡ lower rd l 3 → every test (chainTrees rd c) ≡ every test (chainTrees rd rest)
+    unfolding every
+    chain-more h rest e = rw (inv, chain-step rd l (omega arith), ← ei, ← e) (simp (every, ← er, not-false r h))
+
+pub key-formula : (rd : Reader) (size x item : ℕ) (r : Bool) → KeyOf rd size x (bareTree rd item) → r ≡ hasShape (shapeOf 37) (decoded rd x) → r ≡ isFormula (bareTree rd item)
+unfolding isFormula
+key-formula rd size x item r k e = rw (← k .stands .means) e
+
+-- The ways out of `parts_formed` and `goal_formed`.
+module _ (rd : Reader) (n k c : ℕ) (ek : k ≡ rd n 0) (ec : c ≡ lower rd n 1) where
+  pub formed-65 : k ≡ 65 → (r : Bool) → r ≡ every isFormula (chainTrees rd c) → r ≡ partsFormed rd n
+  unfolding partsFormed ifEq bareParts parts chainTrees
+  formed-65 h r e = rw (← ek, h, ← ec) e
+
+  pub formed-other : (k ≡ 65 → ⊥) → (code : ℕ) (r : Bool) → code ≡ column k 0 → r ≡ haveShapes (shapesOf code) (chainTrees rd c) → r ≡ partsFormed rd n
+  unfolding partsFormed bareParts parts chainTrees
+  formed-other h code r es e = rw (← ek, ← es, ← ec) (eq-no k 65 _ _ r h e)
+
+pub chain-in : (rd : Reader) (n c size : ℕ) → c ≡ lower rd n 1 → n < size → c < size
+chain-in rd n c size e p = omega (arith, lower-most rd n 1)
+
+module _ (k s : ℕ) (goal : Tree) (es : s ≡ column k 1) where
+  pub goal-any : s ≡ 0 → true ≡ goalShaped k goal
+  unfolding goalShaped ifEq
+  goal-any h = simp (goalShaped, ifEq, ← es, eq-eqb s 0 h)
+
+  pub goal-form : (s ≡ 0 → ⊥) → (r : Bool) → r ≡ hasShape (shapeOf s) goal → r ≡ goalShaped k goal
+  unfolding goalShaped ifEq
+  goal-form h r e = simp (goalShaped, ifEq, ← es, ne-eqb s 0 h) e

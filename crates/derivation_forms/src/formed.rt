@@ -1,0 +1,93 @@
+// The form of parts and goal: every sign that the rules show around the letters, and the class of what has no sign.
+use derivation_tables::tables;
+use derivation_trees::keys;
+use derivation_trees::shapes;
+use reader::trees;
+use reader::words;
+ghost use mathlib.Core.Path.{_≡_};
+ghost use Prim.Native.Nat.{_<_};
+ghost use lib.ListN.{length};
+ghost use Rattle.reader.specs.Words.{word};
+ghost use Rattle.reader.specs.Tests.{every};
+ghost use Rattle.reader.specs.Shapes.{haveShapes};
+ghost use Rattle.derivation_trees.specs.Keys.{decoded, Normal};
+ghost use Rattle.derivation_trees.specs.Table.{Table};
+ghost use Rattle.derivation_frames.specs.Frames.{chainTrees};
+ghost use Rattle.derivation_tables.specs.Tables.{shapesOf};
+ghost use Rattle.derivation_forms.specs.Formed.{isFormula, partsFormed, goalShaped};
+
+// Have the items of chain c the shapes that the bytes of `code` number, the lowest byte the first's?
+fn have_shapes(
+    obligation: &[u8],
+    second: &[u8],
+    m: usize,
+    keys: &[usize],
+    c: usize,
+    code: usize,
+) -> bool
+    requires { ⌜ Table (word (now obligation) (now second) m) (now keys) × (c < length (now keys)) ⌝ }
+    ensures { λ r. ⌜ r ≡ haveShapes (shapesOf code) (chainTrees (word (now (obligation .entry)) (now (second .entry)) m) c) ⌝ }
+{
+    if c == 0 {
+        return code == 0;
+    }
+    if code == 0 {
+        return false;
+    }
+    let item = trees::lower_at(obligation, second, m, c, 1);
+    let rest = trees::lower_at(obligation, second, m, c, 3);
+    let x = keys::key_of(obligation, second, m, keys, item);
+    if !shapes::has_shape(obligation, second, m, keys, x, code % 256) {
+        return false;
+    }
+    have_shapes(obligation, second, m, keys, rest, code / 256)
+}
+
+// Are the items of chain c formulas?
+fn are_formulas(obligation: &[u8], second: &[u8], m: usize, keys: &[usize], c: usize) -> bool
+    requires { ⌜ Table (word (now obligation) (now second) m) (now keys) × (c < length (now keys)) ⌝ }
+    ensures { λ r. ⌜ r ≡ every isFormula (chainTrees (word (now (obligation .entry)) (now (second .entry)) m) c) ⌝ }
+{
+    let mut l = c;
+    while l != 0 {
+        let item = trees::lower_at(obligation, second, m, l, 1);
+        let x = keys::key_of(obligation, second, m, keys, item);
+        if !shapes::has_shape(obligation, second, m, keys, x, 37) {
+            return false;
+        }
+        l = trees::lower_at(obligation, second, m, l, 3);
+    }
+    true
+}
+
+// Have the parts of node n the number, classes and forms of its rule? Those of BR2 are any number of formulas.
+pub fn parts_formed(obligation: &[u8], second: &[u8], m: usize, keys: &[usize], n: usize) -> bool
+    requires { ⌜ Table (word (now obligation) (now second) m) (now keys) × (n < length (now keys)) ⌝ }
+    ensures { λ r. ⌜ r ≡ partsFormed (word (now (obligation .entry)) (now (second .entry)) m) n ⌝ }
+{
+    let k = words::word_at(obligation, second, m, n, 0);
+    let c = trees::lower_at(obligation, second, m, n, 1);
+    if k == 65 {
+        return are_formulas(obligation, second, m, keys, c);
+    }
+    have_shapes(obligation, second, m, keys, c, tables::column(k, 0))
+}
+
+// Has the goal the form that rule k shows, where it shows one?
+pub fn goal_formed(
+    obligation: &[u8],
+    second: &[u8],
+    m: usize,
+    keys: &[usize],
+    goal: usize,
+    k: usize,
+) -> bool
+    requires { ⌜ Normal (word (now obligation) (now second) m) (length (now keys)) goal ⌝ }
+    ensures { λ r. ⌜ r ≡ goalShaped k (decoded (word (now (obligation .entry)) (now (second .entry)) m) goal) ⌝ }
+{
+    let s = tables::column(k, 1);
+    if s == 0 {
+        return true;
+    }
+    shapes::has_shape(obligation, second, m, keys, goal, s)
+}

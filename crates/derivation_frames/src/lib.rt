@@ -1,0 +1,2 @@
+// The sequents of a derivation, in a stack of frames.
+pub mod frames;

@@ -1,0 +1,4 @@
+pub mod Listed
+pub mod Members
+pub mod Needs
+pub mod Filled

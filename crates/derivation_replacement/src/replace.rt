@@ -1,0 +1,229 @@
+// Replacement: is a tree what another one is with index 0 replaced? All by keys; what has no index to replace is compared at once. Of a tree's parts the
+// heaviest is compared last, by the loop, so that the recursion is no deeper than the weight's number of bits.
+use derivation_closedness::closed;
+use derivation_trees::parts;
+ghost use mathlib.Core.Path.{_≡_};
+ghost use Prim.Native.Nat.{_+_, _<_, _≤_};
+ghost use lib.ListN.{length};
+ghost use Rattle.reader.specs.Words.{word};
+ghost use Rattle.reader.specs.Trees.{same};
+ghost use Rattle.reader.specs.Variables.{replaced};
+ghost use Rattle.derivation_trees.specs.Keys.{rank, decoded, Normal};
+ghost use Rattle.derivation_trees.specs.Table.{Table};
+ghost use Rattle.derivation_replacement.specs.Replaced.{Tables, fits, fitsPart, firstOther, secondOther, othersFit, indexKey, sameHeads, headsFit, partDepth};
+
+// Is the tree of key j the bound variable with index d?
+fn is_index(obligation: &[u8], second: &[u8], m: usize, keys: &[usize], j: usize, d: usize) -> bool
+    requires { ⌜ Normal (word (now obligation) (now second) m) (length (now keys)) j ⌝ }
+    ensures { λ r. ⌜ r ≡ indexKey (word (now (obligation .entry)) (now (second .entry)) m) j d ⌝ }
+{
+    if parts::kind_of(obligation, second, m, keys, j) != 9 {
+        return false;
+    }
+    parts::atom_of(obligation, second, m, keys, j) == d
+}
+
+// Have the trees of keys x and j one kind and one atom?
+fn same_heads(
+    obligation: &[u8],
+    second: &[u8],
+    m: usize,
+    keys: &[usize],
+    x: usize,
+    j: usize,
+) -> bool
+    requires { ⌜ Normal (word (now obligation) (now second) m) (length (now keys)) x × Normal (word (now obligation) (now second) m) (length (now keys)) j ⌝ }
+    ensures { λ r. ⌜ r ≡ sameHeads (word (now (obligation .entry)) (now (second .entry)) m) x j ⌝ }
+{
+    let k = parts::kind_of(obligation, second, m, keys, x);
+    let l = parts::kind_of(obligation, second, m, keys, j);
+    if k != l {
+        return false;
+    }
+    parts::atom_of(obligation, second, m, keys, x) == parts::atom_of(obligation, second, m, keys, j)
+}
+
+// Is the tree of key x no leaf, with the kind and the atom of that of key j?
+fn heads_fit(obligation: &[u8], second: &[u8], m: usize, keys: &[usize], x: usize, j: usize) -> bool
+    requires { ⌜ Normal (word (now obligation) (now second) m) (length (now keys)) x × Normal (word (now obligation) (now second) m) (length (now keys)) j ⌝ }
+    ensures { λ r. ⌜ r ≡ headsFit (word (now (obligation .entry)) (now (second .entry)) m) x j ⌝ }
+{
+    if x == 0 {
+        return false;
+    }
+    same_heads(obligation, second, m, keys, x, j)
+}
+
+// The index that stands for d in part w of the tree of key j.
+fn part_depth(
+    obligation: &[u8],
+    second: &[u8],
+    m: usize,
+    keys: &[usize],
+    j: usize,
+    d: usize,
+    w: u8,
+) -> usize
+    requires { ⌜ Normal (word (now obligation) (now second) m) (length (now keys)) j × (d < 18446744073709551615) ⌝ }
+    ensures { λ r. ⌜ (r ≡ partDepth (word (now (obligation .entry)) (now (second .entry)) m) j d w) × (r ≤ d + 1) ⌝ }
+{
+    if w != 2 {
+        return d;
+    }
+    if parts::kind_of(obligation, second, m, keys, j) == 19 {
+        d + 1
+    } else {
+        d
+    }
+}
+
+// What the table says of the record of key j, 0 for none.
+fn weight_of(weights: &[u16], j: usize) -> u16 {
+    let body = j % 262144;
+    if body < 2 {
+        return 0;
+    }
+    if weights.len() < body {
+        return 0;
+    }
+    weights[body - 1]
+}
+
+// The part of the tree of key j that is compared last: by the table the heaviest, though any would do.
+fn last_part(
+    obligation: &[u8],
+    second: &[u8],
+    m: usize,
+    keys: &[usize],
+    weights: &[u16],
+    j: usize,
+) -> u8
+    requires { ⌜ Table (word (now obligation) (now second) m) (now keys) × Normal (word (now obligation) (now second) m) (length (now keys)) j ⌝ }
+    ensures { λ r. ⌜ (0 < r) × (r < 4) ⌝ }
+{
+    let a = weight_of(weights, parts::part_of(obligation, second, m, keys, j, 1));
+    let b = weight_of(weights, parts::part_of(obligation, second, m, keys, j, 2));
+    let c = weight_of(weights, parts::part_of(obligation, second, m, keys, j, 3));
+    if a < b {
+        return if b < c { 3 } else { 2 };
+    }
+    if a < c { 3 } else { 1 }
+}
+
+// The same for parts w of the trees of keys x and j.
+fn fits_part(
+    obligation: &[u8],
+    second: &[u8],
+    m: usize,
+    keys: &[usize],
+    reaches: &[u8],
+    weights: &[u16],
+    x: usize,
+    t: usize,
+    j: usize,
+    d: usize,
+    w: u8,
+) -> bool
+    requires { ⌜ Tables (word (now obligation) (now second) m) (now keys) (now reaches) × Normal (word (now obligation) (now second) m) (length (now keys)) x × Normal (word (now obligation) (now second) m) (length (now keys)) t × Normal (word (now obligation) (now second) m) (length (now keys)) j × (0 < j) × (d + rank j < 18446744073709551616) × (0 < w) × (w < 4) ⌝ }
+    ensures { λ r. ⌜ r ≡ fitsPart (word (now (obligation .entry)) (now (second .entry)) m) x t j d w ⌝ }
+{
+    let e = part_depth(obligation, second, m, keys, j, d, w);
+    let y = parts::part_of(obligation, second, m, keys, x, w);
+    let z = parts::part_of(obligation, second, m, keys, j, w);
+    fits_at(obligation, second, m, keys, reaches, weights, y, t, z, e)
+}
+
+// The first part other than w.
+fn first_other(w: u8) -> u8
+    ensures { λ r. ⌜ (r ≡ firstOther w) × (0 < r) × (r < 4) ⌝ }
+{
+    if w == 1 { 2 } else { 1 }
+}
+
+// The last part other than w.
+fn second_other(w: u8) -> u8
+    ensures { λ r. ⌜ (r ≡ secondOther w) × (0 < r) × (r < 4) ⌝ }
+{
+    if w == 3 { 2 } else { 3 }
+}
+
+// The same for the parts other than w.
+fn others_fit(
+    obligation: &[u8],
+    second: &[u8],
+    m: usize,
+    keys: &[usize],
+    reaches: &[u8],
+    weights: &[u16],
+    x: usize,
+    t: usize,
+    j: usize,
+    d: usize,
+    w: u8,
+) -> bool
+    requires { ⌜ Tables (word (now obligation) (now second) m) (now keys) (now reaches) × Normal (word (now obligation) (now second) m) (length (now keys)) x × Normal (word (now obligation) (now second) m) (length (now keys)) t × Normal (word (now obligation) (now second) m) (length (now keys)) j × (0 < j) × (d + rank j < 18446744073709551616) ⌝ }
+    ensures { λ r. ⌜ r ≡ othersFit (word (now (obligation .entry)) (now (second .entry)) m) x t j d w ⌝ }
+{
+    let u = first_other(w);
+    let v = second_other(w);
+    if !fits_part(obligation, second, m, keys, reaches, weights, x, t, j, d, u) {
+        return false;
+    }
+    fits_part(obligation, second, m, keys, reaches, weights, x, t, j, d, v)
+}
+
+// Is the tree of key x that of key j with that of key t in place of index d?
+fn fits_at(
+    obligation: &[u8],
+    second: &[u8],
+    m: usize,
+    keys: &[usize],
+    reaches: &[u8],
+    weights: &[u16],
+    x: usize,
+    t: usize,
+    j: usize,
+    d: usize,
+) -> bool
+    requires { ⌜ Tables (word (now obligation) (now second) m) (now keys) (now reaches) × Normal (word (now obligation) (now second) m) (length (now keys)) x × Normal (word (now obligation) (now second) m) (length (now keys)) t × Normal (word (now obligation) (now second) m) (length (now keys)) j × (d + rank j < 18446744073709551616) ⌝ }
+    ensures { λ r. ⌜ r ≡ fits (word (now (obligation .entry)) (now (second .entry)) m) x t j d ⌝ }
+{
+    let mut y = x;
+    let mut z = j;
+    let mut e = d;
+    while !closed::is_below(obligation, second, m, keys, reaches, z, e) {
+        if is_index(obligation, second, m, keys, z, e) {
+            return y == t;
+        }
+        if !heads_fit(obligation, second, m, keys, y, z) {
+            return false;
+        }
+        let w = last_part(obligation, second, m, keys, weights, z);
+        if !others_fit(obligation, second, m, keys, reaches, weights, y, t, z, e, w) {
+            return false;
+        }
+        e = part_depth(obligation, second, m, keys, z, e, w);
+        y = parts::part_of(obligation, second, m, keys, y, w);
+        z = parts::part_of(obligation, second, m, keys, z, w);
+    }
+    y == z
+}
+
+// "B(t) is B with index 0 replaced": is the tree of key x that of key j with that of key t in place of index 0? The weights
+// only say in which order parts are compared.
+pub fn is_replaced(
+    obligation: &[u8],
+    second: &[u8],
+    m: usize,
+    keys: &[usize],
+    reaches: &[u8],
+    weights: &[u16],
+    x: usize,
+    t: usize,
+    j: usize,
+) -> bool
+    requires { ⌜ Tables (word (now obligation) (now second) m) (now keys) (now reaches) × Normal (word (now obligation) (now second) m) (length (now keys)) x × Normal (word (now obligation) (now second) m) (length (now keys)) t × Normal (word (now obligation) (now second) m) (length (now keys)) j ⌝ }
+    ensures { λ r. ⌜ r ≡ same (decoded (word (now (obligation .entry)) (now (second .entry)) m) x) (replaced 0 (decoded (word (now (obligation .entry)) (now (second .entry)) m) t) (decoded (word (now (obligation .entry)) (now (second .entry)) m) j)) ⌝ }
+{
+    fits_at(obligation, second, m, keys, reaches, weights, x, t, j, 0)
+}

@@ -1,0 +1,149 @@
+-- What the rules 64 to 80 ask and make, as a table of numbers, and that the rows say the same.
+use Prim.Native.Nat.{ℕ, zero, suc, _+_, _*_, _-_, _/_, _%_, _<_, _≤_}
+use mathlib.Core.Path.{_≡_, refl, sym, ap, _∙_}
+use mathlib.Core.List.{List, [], _∷_, _++_}
+use mathlib.Core.Bool.{Bool, true, false}
+use lib.Dec.{eqb, ltb, leb}
+use lib.ListN.{getD, set, length, length-append}
+use lib.Seq.{getD-set-other}
+use native.Mathlib.Omega.{arith}
+use borrow.Author.Tests.{lt-ltb, le-ltb, ltb-true, ltb-false, leb-true, le-leb, lt-leb}
+use Rattle.reader.specs.Tests.{both, every, ifEq, ifLt}
+use Rattle.reader.specs.Down.{Local, iter, down, down-zero, down-step}
+use Rattle.reader.specs.Trees.{Tree, leaf, same, firstOf, secondOf, ¬ᵗ_}
+use Rattle.reader.specs.Variables.{replaced, indicesBelow}
+use Rattle.reader.specs.Shapes.{Shape}
+use Rattle.derivation_rules.specs.Rules.{Sequent, sequent, Row, row, premise, at, areClosed, noRow}
+use Rattle.derivation_rules.specs.Check.{hasRoom}
+use Rattle.derivation_trees.specs.Shapes.{shapeOf}
+use Rattle.derivation_tables.specs.RowLaws.{NoRule, row-none, by-rule}
+
+-- A form names a tree of a node: 4 times the source and a step. Source 1 is the goal, from 2 on the parts; step 0 itself, 1 its first part, 2 its second,
+-- 3 its negation. Form 0 is none.
+unfoldable pub sourceTree : List Tree → Tree → ℕ → Tree
+sourceTree ps goal w = ifLt w 2 goal (at ps (w - 2))
+
+unfoldable pub stepTree : ℕ → Tree → Tree
+stepTree a t = ifEq a 0 t (ifEq a 1 (firstOf t) (ifEq a 2 (secondOf t) (¬ᵗ t)))
+
+unfoldable pub formTree : List Tree → Tree → ℕ → Tree
+formTree ps goal form = stepTree (form % 4) (sourceTree ps goal (form / 4))
+
+-- A list of shapes as a number: a byte for each, the first's lowest.
+unfoldable pub shapesStep : (ℕ → List Shape) → ℕ → List Shape
+shapesStep sub code = shapeOf (code % 256) ∷ sub (code / 256)
+
+unfoldable pub shapesOf : ℕ → List Shape
+shapesOf = down [] shapesStep
+
+-- Fourteen columns a rule: 0 shapes of the parts; 1 shape of the goal; 2 number of premises; 3 form needed in the sequent;
+-- 4 and 5 goal of premise 0 and the member that it adds; 6 and 7 the same of premise 1; 8 and 9 two forms that are equal;
+-- 10 to 12 three forms, of which the first is the third with the second in place of index 0; 13 the most members that a premise adds.
+abbrev pub rules : List ℕ
+rules =
+    0 ∷ 0 ∷ 0 ∷ 4 ∷ 0 ∷ 0 ∷ 0 ∷ 0 ∷ 0 ∷ 0 ∷ 0 ∷ 0 ∷ 0 ∷ 0 ∷  -- 64 BR1
+    0 ∷ 0 ∷ 1 ∷ 0 ∷ 4 ∷ 0 ∷ 0 ∷ 0 ∷ 0 ∷ 0 ∷ 0 ∷ 0 ∷ 0 ∷ 0 ∷  -- 65 BR2
+    0 ∷ 0 ∷ 0 ∷ 4 ∷ 0 ∷ 0 ∷ 0 ∷ 0 ∷ 0 ∷ 0 ∷ 0 ∷ 0 ∷ 0 ∷ 0 ∷  -- 66 BR3
+    37 ∷ 0 ∷ 2 ∷ 0 ∷ 8 ∷ 0 ∷ 4 ∷ 8 ∷ 0 ∷ 0 ∷ 0 ∷ 0 ∷ 0 ∷ 1 ∷  -- 67 BR4
+    0 ∷ 78 ∷ 0 ∷ 0 ∷ 0 ∷ 0 ∷ 0 ∷ 0 ∷ 0 ∷ 0 ∷ 0 ∷ 0 ∷ 0 ∷ 0 ∷  -- 68 BR6
+    17 ∷ 0 ∷ 2 ∷ 0 ∷ 9 ∷ 0 ∷ 8 ∷ 0 ∷ 10 ∷ 4 ∷ 0 ∷ 0 ∷ 0 ∷ 0 ∷  -- 69 MP
+    0 ∷ 16 ∷ 2 ∷ 0 ∷ 5 ∷ 0 ∷ 6 ∷ 0 ∷ 0 ∷ 0 ∷ 0 ∷ 0 ∷ 0 ∷ 0 ∷  -- 70 R1
+    16 ∷ 0 ∷ 1 ∷ 0 ∷ 8 ∷ 0 ∷ 0 ∷ 0 ∷ 9 ∷ 4 ∷ 0 ∷ 0 ∷ 0 ∷ 0 ∷  -- 71 R2
+    16 ∷ 0 ∷ 1 ∷ 0 ∷ 8 ∷ 0 ∷ 0 ∷ 0 ∷ 10 ∷ 4 ∷ 0 ∷ 0 ∷ 0 ∷ 0 ∷  -- 72 R2'
+    0 ∷ 17 ∷ 1 ∷ 0 ∷ 6 ∷ 5 ∷ 0 ∷ 0 ∷ 0 ∷ 0 ∷ 0 ∷ 0 ∷ 0 ∷ 1 ∷  -- 73 R3
+    17 ∷ 0 ∷ 1 ∷ 9 ∷ 8 ∷ 0 ∷ 0 ∷ 0 ∷ 10 ∷ 4 ∷ 0 ∷ 0 ∷ 0 ∷ 0 ∷  -- 74 R4
+    37 ∷ 0 ∷ 2 ∷ 0 ∷ 8 ∷ 7 ∷ 11 ∷ 7 ∷ 0 ∷ 0 ∷ 0 ∷ 0 ∷ 0 ∷ 1 ∷  -- 75 R5
+    37 ∷ 18 ∷ 2 ∷ 0 ∷ 8 ∷ 5 ∷ 11 ∷ 5 ∷ 0 ∷ 0 ∷ 0 ∷ 0 ∷ 0 ∷ 1 ∷  -- 76 R6
+    9479 ∷ 19 ∷ 1 ∷ 0 ∷ 12 ∷ 0 ∷ 0 ∷ 0 ∷ 0 ∷ 0 ∷ 12 ∷ 8 ∷ 6 ∷ 0 ∷  -- 77 R7
+    9235 ∷ 0 ∷ 1 ∷ 0 ∷ 8 ∷ 0 ∷ 0 ∷ 0 ∷ 0 ∷ 0 ∷ 4 ∷ 12 ∷ 10 ∷ 0 ∷  -- 78 R8
+    2429989 ∷ 0 ∷ 2 ∷ 0 ∷ 12 ∷ 0 ∷ 16 ∷ 0 ∷ 0 ∷ 0 ∷ 16 ∷ 13 ∷ 8 ∷ 0 ∷  -- 79 R9
+    0 ∷ 20 ∷ 0 ∷ 0 ∷ 0 ∷ 0 ∷ 0 ∷ 0 ∷ 5 ∷ 6 ∷ 0 ∷ 0 ∷ 0 ∷ 0 ∷ []  -- 80 R10
+
+-- column w of rule k, 0 for no rule
+unfoldable pub column : ℕ → ℕ → ℕ
+column k w = ifLt k 64 0 (ifLt 80 k 0 (getD rules (14 * (k - 64) + w) 0))
+
+pub column-none : (k w : ℕ) → NoRule k → column k w ≡ 0
+unfolding column ifLt
+column-none k w h = go (ltb k 64) refl
+  where
+    past-by : 64 ≤ k → (b : Bool) → ltb 80 k ≡ b → 80 < k
+    past-by z true e = ltb-true 80 k e
+    past-by z false e = let y : k ≤ 80 = ltb-false 80 k e in absurd (h k z y refl)
+
+    go : (b : Bool) → ltb k 64 ≡ b → _≡_ {A = ℕ} (elim b [ true ↦ 0 | false ↦ elim (ltb 80 k) [ true ↦ 0 | false ↦ getD rules (14 * (k - 64) + w) 0 ] ]) 0
+    go true e = refl
+    go false e = let z : 64 ≤ k = ltb-false k 64 e in simp (lt-ltb 80 k (past-by z (ltb 80 k) refl))
+
+-- a list of one, or of none for number 0
+unfoldable pub oneOf : {A : Type 0} → (ℕ → A) → ℕ → List A
+oneOf f n = ifEq n 0 [] (f n ∷ [])
+
+-- the members with one more, or with none for form 0
+unfoldable pub grown : List Tree → List Tree → Tree → ℕ → List Tree
+grown Γ ps goal form = ifEq form 0 Γ (Γ ++ (formTree ps goal form ∷ []))
+
+-- premises from a goal's form and an added member's, as far as there is a goal
+unfoldable pub premisesFrom : List Tree → Sequent → ℕ → ℕ → List Sequent → List Sequent
+premisesFrom ps st g e rest = ifEq g 0 [] (premise st (grown (st .members) ps (st .goal) e) (formTree ps (st .goal) g) ∷ rest)
+
+-- the rows say what the table says
+module _ (ps : List Tree) (st : Sequent) where
+  pub shapes-are : (k : ℕ) → (k ≡ 65 → ⊥) → row k ps st .shapes ≡ shapesOf (column k 0)
+  unfolding row ifEq ifLt column shapesOf shapesStep shapeOf down iter
+  shapes-are =
+      by-rule (λ k. (k ≡ 65 → ⊥) → row k ps st .shapes ≡ shapesOf (column k 0))
+      (λ h. refl) (λ h. absurd (h refl)) (λ h. refl) (λ h. refl) (λ h. refl) (λ h. refl) (λ h. refl) (λ h. refl) (λ h. refl) (λ h. refl) (λ h. refl) (λ h. refl) (λ h. refl) (λ h. refl) (λ h. refl) (λ h. refl) (λ h. refl)
+      (λ k other h. rw (row-none k ps st other, column-none k 0 other) refl)
+
+  pub goal-shapes-are : (k : ℕ) → row k ps st .goalShapes ≡ oneOf shapeOf (column k 1)
+  unfolding row ifEq ifLt column oneOf shapeOf
+  goal-shapes-are =
+      by-rule (λ k. row k ps st .goalShapes ≡ oneOf shapeOf (column k 1))
+      refl refl refl refl refl refl refl refl refl refl refl refl refl refl refl refl refl
+      (λ k other. rw (row-none k ps st other, column-none k 1 other) refl)
+
+  pub count-is : (k : ℕ) → length (row k ps st .premises) ≡ column k 2
+  unfolding row ifEq ifLt column
+  count-is =
+      by-rule (λ k. length (row k ps st .premises) ≡ column k 2)
+      refl refl refl refl refl refl refl refl refl refl refl refl refl refl refl refl refl
+      (λ k other. rw (row-none k ps st other, column-none k 2 other) refl)
+
+  pub needs-are : (k : ℕ) → (k ≡ 65 → ⊥) → row k ps st .needs ≡ oneOf (formTree ps (st .goal)) (column k 3)
+  unfolding row ifEq ifLt column oneOf formTree stepTree sourceTree
+  needs-are =
+      by-rule (λ k. (k ≡ 65 → ⊥) → row k ps st .needs ≡ oneOf (formTree ps (st .goal)) (column k 3))
+      (λ h. refl) (λ h. absurd (h refl)) (λ h. refl) (λ h. refl) (λ h. refl) (λ h. refl) (λ h. refl) (λ h. refl) (λ h. refl) (λ h. refl) (λ h. refl) (λ h. refl) (λ h. refl) (λ h. refl) (λ h. refl) (λ h. refl) (λ h. refl)
+      (λ k other h. rw (row-none k ps st other, column-none k 3 other) refl)
+
+  pub premises-are : (k : ℕ) → (k ≡ 65 → ⊥) →
+      row k ps st .premises ≡ premisesFrom ps st (column k 4) (column k 5) (premisesFrom ps st (column k 6) (column k 7) [])
+  unfolding row ifEq ifLt column premisesFrom grown formTree stepTree sourceTree
+  premises-are =
+      by-rule (λ k. (k ≡ 65 → ⊥) → row k ps st .premises ≡ premisesFrom ps st (column k 4) (column k 5) (premisesFrom ps st (column k 6) (column k 7) []))
+      (λ h. refl) (λ h. absurd (h refl)) (λ h. refl) (λ h. refl) (λ h. refl) (λ h. refl) (λ h. refl) (λ h. refl) (λ h. refl) (λ h. refl) (λ h. refl) (λ h. refl) (λ h. refl) (λ h. refl) (λ h. refl) (λ h. refl) (λ h. refl)
+      (λ k other h. rw (row-none k ps st other, column-none k 4 other) refl)
+
+-- the entries that are bytes, and 0 for the three others
+abbrev pub bytes : List ℕ
+bytes = set (set (set rules 182 0) 196 0) 210 0
+
+-- The ways out of the code that reads the table.
+pub entry-byte : (i : ℕ) → (i ≡ 182 → ⊥) → (i ≡ 196 → ⊥) → (i ≡ 210 → ⊥) → (r : ℕ) → r ≡ getD bytes i 0 → r ≡ getD rules i 0
+entry-byte i p q r v e =
+    e ∙ getD-set-other (set (set rules 182 0) 196 0) 210 i 0 0 r ∙ getD-set-other (set rules 182 0) 196 i 0 0 q ∙ getD-set-other rules 182 i 0 0 p
+
+module _ (k w : ℕ) where
+  pub column-low : k < 64 → 0 ≡ column k w
+  unfolding column ifLt
+  column-low h = simp (column, ifLt, lt-ltb k 64 h)
+
+  module _ (low : 64 ≤ k) where
+    pub column-high : 80 < k → 0 ≡ column k w
+    unfolding column ifLt
+    column-high h = simp (column, ifLt, le-ltb k 64 low, lt-ltb 80 k h)
+
+    pub column-rule : k ≤ 80 → (r : ℕ) → r ≡ getD rules (14 * (k - 64) + w) 0 → r ≡ column k w
+    unfolding column ifLt
+    column-rule h r e = simp (column, ifLt, le-ltb k 64 low, le-ltb 80 k h) e

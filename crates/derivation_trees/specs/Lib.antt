@@ -1,0 +1,7 @@
+pub mod Erased
+pub mod Keys
+pub mod Makers
+pub mod Table
+pub mod Filling
+pub mod Parts
+pub mod Shapes

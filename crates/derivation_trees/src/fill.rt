@@ -1,0 +1,57 @@
+// Fills the table of keys: records rising, each key from those of smaller records.
+use reader::trees;
+use reader::words;
+use reader_equality::slots;
+use reader_equality::tables;
+ghost use Prim.Native.Nat.{_+_, _*_, _<_, _≤_};
+ghost use lib.ListN.{length};
+ghost use Rattle.reader.specs.Words.{word};
+ghost use Rattle.derivation_trees.specs.Table.{Table};
+ghost use Rattle.derivation_trees.specs.Filling.{Filling, Made};
+
+// The key of record i. A record that is the first with its tree is put into the slots, unless it is ⊥, ⊤, a negation or a "for all types".
+fn record_key(
+    obligation: &[u8],
+    second: &[u8],
+    m: usize,
+    keys: &[usize],
+    slots: &mut [u32],
+    i: usize,
+) -> usize
+    requires { ⌜ (0 < i) × (i ≤ length (now keys)) × (i < 262143) × (4096 + 2 * i ≤ length (now slots)) × Filling (word (now obligation) (now second) m) (now keys) (now slots) i ⌝ }
+    ensures { λ r. ⌜ Made (word (now (obligation .entry)) (now (second .entry)) m) (now (keys .entry)) (now (slots .exit)) i r ⌝ }
+{
+    let k = words::word_at(obligation, second, m, i, 0);
+    if k == 14 {
+        return 1;
+    }
+    if k == 15 {
+        return 262145;
+    }
+    if k == 18 {
+        let x = trees::child_at(obligation, second, m, i, 1);
+        return tables::entry(keys, x) + 262144;
+    }
+    if k == 22 {
+        let x = trees::child_at(obligation, second, m, i, 2);
+        return tables::entry(keys, x);
+    }
+    slots::place(obligation, second, m, false, keys, slots, i) + 1
+}
+
+// Fills the table with the keys of all its records; past the end of the files a record reads as zeros. The slots are scratch.
+pub fn key_all(obligation: &[u8], second: &[u8], m: usize, keys: &mut [usize], slots: &mut [u32])
+    requires { ⌜ (length (now keys) ≤ 262143) × (4096 + 2 * length (now keys) ≤ length (now slots)) ⌝ }
+    ensures { λ _. ⌜ Table (word (now (obligation .entry)) (now (second .entry)) m) (now (keys .exit)) ⌝ }
+{
+    slots::clear(slots);
+    if keys.len() == 0 {
+        return;
+    }
+    keys[0] = 0;
+    let mut i: usize = 1;
+    while i < keys.len() {
+        keys[i] = record_key(obligation, second, m, keys, slots, i);
+        i += 1;
+    }
+}

@@ -1,0 +1,17 @@
+use borrow.Author.Needs.{needs}
+use Rattle.derivation_walk.specs.Ways.{link-word}
+use Rattle.derivation_walk.proofs.ways.link_at.Statement.{statement}
+use Rattle.derivation_walk.proofs.ways.link_at.Tie as tie
+
+pub link-at-spec : {M : Type 1} → statement M
+link-at-spec = tie.close (tie.spec
+    -- mul-result: 0 args
+    (λ c. search needs)
+    -- add-result: 0 args
+    (λ c. search needs)
+    -- mul-result-2: 0 args
+    (λ c. search needs)
+    -- shared-slice-read-result: 1 args
+    (λ c. search needs)
+    -- returns: 1 args
+    (λ c. link-word _ _))

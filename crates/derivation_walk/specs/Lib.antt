@@ -1,0 +1,3 @@
+pub mod Walked
+pub mod Ways
+pub mod Going

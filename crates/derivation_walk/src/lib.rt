@@ -1,0 +1,3 @@
+// The walk over a derivation.
+pub mod walk;
+pub mod ways;

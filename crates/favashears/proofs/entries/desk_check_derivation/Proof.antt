@@ -1,0 +1,13 @@
+use borrow.Author.Needs.{needs}
+use native.Mathlib.Omega.{arith}
+use Rattle.favashears.proofs.entries.desk_check_derivation.Statement.{statement}
+use Rattle.favashears.proofs.entries.desk_check_derivation.Tie as tie
+
+pub desk-check-derivation-spec : {M : Type 1} → statement M
+desk-check-derivation-spec = tie.close (tie.spec
+    -- check-derivation-requires: 2 args
+    (λ c κs. search needs)
+    -- pack-requires: check-derivation; 3 args
+    (λ c κs. search needs)
+    -- returns: pack; 1 check-derivation; 4 args
+    (λ c. cc))

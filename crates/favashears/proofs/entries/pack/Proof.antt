@@ -1,0 +1,23 @@
+use borrow.Author.Needs.{needs}
+use mathlib.Core.Path.{refl}
+use Rattle.favashears.specs.Pack.{pack}
+use Rattle.favashears.proofs.entries.pack.Statement.{statement}
+use Rattle.favashears.proofs.entries.pack.Tie as tie
+
+pub pack-spec : {M : Type 1} → statement M
+unfolding pack
+pack-spec = tie.close (tie.spec
+    -- mul-result: 0 args
+    (λ c. search needs)
+    -- mul-result-2: 0 args
+    (λ c. search needs)
+    -- add-result: 0 args
+    (λ c. search needs)
+    -- mul-result-3: 0 args
+    (λ c. search needs)
+    -- add-result-2: 0 args
+    (λ c. search needs)
+    -- add-result-3: 0 args
+    (λ c. search needs)
+    -- returns: 0 args
+    (λ c. refl))

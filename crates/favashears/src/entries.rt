@@ -1,0 +1,57 @@
+// The C entries: two byte areas in, the answer's four numbers packed in one.
+use derivation_check::check::check_derivation;
+use proof_check::check::check_proof;
+use reader::Answer;
+use reader_places::places::read_derivation;
+use reader_places::places::read_proof;
+ghost use mathlib.Core.Path.{_≡_};
+ghost use Rattle.reader.specs.Places.{reading};
+ghost use Rattle.proof_rules.specs.Check.{proofAnswer};
+ghost use Rattle.derivation_rules.specs.Check.{derivationAnswer};
+ghost use Rattle.favashears.specs.Pack.{pack};
+
+// The answer in one number.
+fn pack(a: Answer) -> u64
+    ensures { λ r. ⌜ r ≡ pack a ⌝ }
+{
+    let refusal = a.refusal;
+    let file = a.file;
+    let at = a.at;
+    let nodes = a.nodes;
+    ((refusal % 256) as u64) * 72057594037927936
+        + ((file % 256) as u64) * 281474976710656
+        + ((at % 16777216) as u64) * 16777216
+        + ((nodes % 16777216) as u64)
+}
+
+// The answer to an obligation and a proof.
+#[no_mangle]
+pub extern "C" fn desk_check_proof(obligation: &[u8], proof: &[u8]) -> u64
+    ensures { λ r. ⌜ r ≡ pack (proofAnswer (now (obligation .entry)) (now (proof .entry))) ⌝ }
+{
+    pack(check_proof(obligation, proof))
+}
+
+// The answer to an obligation and a derivation.
+#[no_mangle]
+pub extern "C" fn desk_check_derivation(obligation: &[u8], derivation: &[u8]) -> u64
+    ensures { λ r. ⌜ r ≡ pack (derivationAnswer (now (obligation .entry)) (now (derivation .entry))) ⌝ }
+{
+    pack(check_derivation(obligation, derivation))
+}
+
+// Places 1 to 12 of an obligation and a proof.
+#[no_mangle]
+pub extern "C" fn desk_read_proof(obligation: &[u8], proof: &[u8]) -> u64
+    ensures { λ r. ⌜ r ≡ pack (reading 1 (now (obligation .entry)) (now (proof .entry))) ⌝ }
+{
+    pack(read_proof(obligation, proof))
+}
+
+// Places 1 to 12 of an obligation and a derivation.
+#[no_mangle]
+pub extern "C" fn desk_read_derivation(obligation: &[u8], derivation: &[u8]) -> u64
+    ensures { λ r. ⌜ r ≡ pack (reading 2 (now (obligation .entry)) (now (derivation .entry))) ⌝ }
+{
+    pack(read_derivation(obligation, derivation))
+}

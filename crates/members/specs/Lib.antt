@@ -1,6 +1,0 @@
-pub mod Keys
-pub mod Makers
-pub mod Sequents
-pub mod Signs
-pub mod Added
-pub mod Marks

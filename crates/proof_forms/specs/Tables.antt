@@ -1,0 +1,93 @@
+-- What the rules 32 to 46 say of the number of premises and the shapes of parts, as tables, and that the rows say the same.
+use Prim.Native.Nat.{ℕ, _-_, _<_, _≤_}
+use mathlib.Core.Path.{_≡_, refl, sym, ap}
+use mathlib.Core.List.{List, [], _∷_, map}
+use mathlib.Core.Bool.{Bool, true, false}
+use lib.Dec.{ltb}
+use lib.ListN.{getD, length}
+use native.Mathlib.Omega.{arith}
+use borrow.Author.Tests.{lt-ltb, le-ltb, ltb-true, ltb-false}
+use Rattle.reader.specs.Tests.{ifEq, ifLt}
+use Rattle.reader.specs.Words.{Reader}
+use Rattle.reader.specs.Trees.{Tree, lower, tree}
+use Rattle.reader.specs.Chains.{items, itemTrees, parts}
+use Rattle.reader.specs.Shapes.{haveShapes}
+use Rattle.proof_rules.specs.Check.{rowOf}
+use Rattle.reader.specs.Down.{iter, down}
+use Rattle.proof_rules.specs.Rules.{Row, row, noRow}
+use Rattle.proof_rules.specs.RowLaws.{NoRule, row-none, by-rule}
+use Rattle.proof_forms.specs.Shapes.{shapeStep, shapeOf, shapesStep, shapesOf, instanceShapes}
+
+-- a byte for each part, the first's lowest: a kind, 32 and a class, or 64 and what stands under a ¬
+abbrev pub shapeCodes : List ℕ
+shapeCodes =
+    0 ∷ 0 ∷ 37 ∷ 84 ∷ 20 ∷ 37 ∷ 165 ∷ 16 ∷ 81 ∷ 17 ∷ 80 ∷ 2426707 ∷ 2434067 ∷ 0 ∷ 159536915493 ∷ []
+
+abbrev pub premiseCounts : List ℕ
+premiseCounts = 0 ∷ 0 ∷ 0 ∷ 0 ∷ 0 ∷ 2 ∷ 1 ∷ 1 ∷ 1 ∷ 2 ∷ 2 ∷ 1 ∷ 1 ∷ 1 ∷ 2 ∷ []
+
+-- what stands at place i of a table of the fifteen rules, 0 for a kind k that is none
+unfoldable pub ruleEntry : List ℕ → ℕ → ℕ → ℕ
+ruleEntry table k i = ifLt k 32 0 (ifLt 46 k 0 (getD table i 0))
+
+unfoldable pub shapeCode : ℕ → ℕ
+shapeCode k = ruleEntry shapeCodes k (k - 32)
+
+unfoldable pub premiseCount : ℕ → ℕ
+premiseCount k = ruleEntry premiseCounts k (k - 32)
+
+-- no rule has no entry
+pub entry-none : (table : List ℕ) (k i : ℕ) → NoRule k → ruleEntry table k i ≡ 0
+unfolding ruleEntry ifLt
+entry-none table k i h = go (ltb k 32) refl
+  where
+    past-by : 32 ≤ k → (b : Bool) → ltb 46 k ≡ b → 46 < k
+    past-by z true e = ltb-true 46 k e
+    past-by z false e = let y : k ≤ 46 = ltb-false 46 k e in absurd (h k z y refl)
+
+    go : (b : Bool) → ltb k 32 ≡ b → _≡_ {A = ℕ} (elim b [ true ↦ 0 | false ↦ elim (ltb 46 k) [ true ↦ 0 | false ↦ getD table i 0 ] ]) 0
+    go true e = refl
+    go false e = let z : 32 ≤ k = ltb-false k 32 e in simp (lt-ltb 46 k (past-by z (ltb 46 k) refl))
+
+-- the rows say what the tables say
+pub shapes-are : (ps : List Tree) (k : ℕ) → (k ≡ 45 → ⊥) → row k ps .shapes ≡ shapesOf (shapeCode k)
+unfolding row ifEq shapeCode ruleEntry ifLt shapesOf shapesStep shapeOf shapeStep down iter
+shapes-are ps =
+    by-rule (λ k. (k ≡ 45 → ⊥) → row k ps .shapes ≡ shapesOf (shapeCode k))
+    (λ h. refl) (λ h. refl) (λ h. refl) (λ h. refl) (λ h. refl)
+    (λ h. refl) (λ h. refl) (λ h. refl) (λ h. refl) (λ h. refl)
+    (λ h. refl) (λ h. refl) (λ h. refl) (λ h. absurd (h refl)) (λ h. refl)
+    (λ k other h. rw (row-none k ps other, entry-none shapeCodes k (k - 32) other) refl)
+
+pub premises-are : (ps : List Tree) (k : ℕ) → length (row k ps .adds) ≡ premiseCount k
+unfolding row ifEq premiseCount ruleEntry ifLt
+premises-are ps =
+    by-rule (λ k. length (row k ps .adds) ≡ premiseCount k)
+    refl refl refl refl refl refl refl refl refl refl refl refl refl refl refl
+    (λ k other. rw (row-none k ps other, entry-none premiseCounts k (k - 32) other) refl)
+
+-- The ways out of the code that reads the tables.
+module _ (table : List ℕ) (k i : ℕ) where
+  pub entry-low : k < 32 → 0 ≡ ruleEntry table k i
+  unfolding ruleEntry ifLt
+  entry-low h = simp (ruleEntry, ifLt, lt-ltb k 32 h)
+
+  module _ (low : 32 ≤ k) where
+    pub entry-high : 46 < k → 0 ≡ ruleEntry table k i
+    unfolding ruleEntry ifLt
+    entry-high h = simp (ruleEntry, ifLt, le-ltb k 32 low, lt-ltb 46 k h)
+
+    pub entry-rule : k ≤ 46 → getD table i 0 ≡ ruleEntry table k i
+    unfolding ruleEntry ifLt
+    entry-rule h = simp (ruleEntry, ifLt, le-ltb k 32 low, le-ltb 46 k h)
+
+-- the shapes of a node's parts
+module _ (rd : Reader) (n k c : ℕ) (ek : k ≡ rd n 0) (ec : c ≡ lower rd n 1) where
+  pub shapes-45 : k ≡ 45 → (r : Bool) → r ≡ instanceShapes (itemTrees rd c) → r ≡ haveShapes (rowOf rd n .shapes) (map (tree rd) (parts rd n))
+  unfolding rowOf parts instanceShapes itemTrees row ifEq
+  shapes-45 h r e = rw (← ek, h, ← ec) e
+
+  pub shapes-other : (k ≡ 45 → ⊥) → (code : ℕ) (r : Bool) → code ≡ shapeCode k → r ≡ haveShapes (shapesOf code) (itemTrees rd c) →
+      r ≡ haveShapes (rowOf rd n .shapes) (map (tree rd) (parts rd n))
+  unfolding rowOf parts itemTrees
+  shapes-other h code r es e = rw (← ek, shapes-are (map (tree rd) (items rd (lower rd n 1))) k h, ← es, ← ec) e

@@ -1,0 +1,305 @@
+-- A symbol has a good name exactly where the test of its name passes, and a name of its own exactly where it is not taken.
+use Prim.Native.Nat.{ℕ, zero, suc, _+_, _<_, _≤_}
+use mathlib.Core.Path.{_≡_, refl, sym, ap, subst, _∙_}
+use mathlib.Core.List.{List, [], _∷_}
+use mathlib.Core.Bool.{Bool, true, false, not, false≢true}
+use mathlib.Core.Logic.{_⊎_, inl, inr, ⊎-elim}
+use lib.Dec.{eqb}
+use native.Mathlib.Omega.{arith}
+use borrow.Author.Tests.{eq-eqb, ne-eqb, eqb-true, eqb-false, not-true}
+use Rattle.reader.specs.Words.{Reader}
+use Rattle.reader.specs.Tests.{both, either, between, ifEq, ifTrue}
+use Rattle.reader.specs.Chains.{linked}
+use Rattle.reader.specs.Names.{nameOf, nameSpace, nameBytes, isLetter, isDigitOrUnderscore, single, accented, characters, name, hasBytes, startsWell, isName, sameName, takenBelow, nameTaken}
+use Rattle.reader_laws.specs.Scan.{both-parts, both-join, either-parts, between-parts, when-true, when-false, when-equal, when-different}
+use Rattle.reader_laws.specs.Record.{smaller-name-differs}
+use Rattle.proof_meaning.specs.Facts.{here, there, Every}
+use Rattle.proof_meaning.specs.FactLaws.{every-0, every-more, every-in, every-out, not-so, failed, either-first, either-second}
+use Rattle.proof_meaning.specs.Spelling.{Letter, DigitOrUnderscore, Accented, Spelled, SpelledName, GoodName, ConstantOrFunction, Symbol}
+use Rattle.proof_meaning.specs.TableLaws.{between-out}
+
+-- bytes
+letter-in : (b : ℕ) → isLetter b ≡ true → Letter b
+unfolding isLetter
+letter-in b h =
+    either-parts (between 65 90 b) _ h (λ e. let p = between-parts 65 90 b e in Letter.capital (p .0) (p .1))
+    (λ e. let p = between-parts 97 122 b e in Letter.small (p .0) (p .1))
+
+letter-out : {b : ℕ} → Letter b → isLetter b ≡ true
+unfolding isLetter
+letter-out {b} (Letter.capital p q) = either-first (between 65 90 b) (between 97 122 b) (between-out 65 90 b p q)
+letter-out {b} (Letter.small p q) = either-second (between 65 90 b) (between 97 122 b) (between-out 97 122 b p q)
+
+mark-in : (b : ℕ) → isDigitOrUnderscore b ≡ true → DigitOrUnderscore b
+unfolding isDigitOrUnderscore
+mark-in b h =
+    either-parts (between 48 57 b) _ h (λ e. let p = between-parts 48 57 b e in DigitOrUnderscore.digit (p .0) (p .1))
+    (λ e. DigitOrUnderscore.underscore (eqb-true b 95 e))
+
+mark-out : {b : ℕ} → DigitOrUnderscore b → isDigitOrUnderscore b ≡ true
+unfolding isDigitOrUnderscore
+mark-out {b} (DigitOrUnderscore.digit p q) = either-first (between 48 57 b) (eqb b 95) (between-out 48 57 b p q)
+mark-out {b} (DigitOrUnderscore.underscore e) = either-second (between 48 57 b) (eqb b 95) (eq-eqb b 95 e)
+
+-- a letter is no digit, no underscore, and no C3
+letter-only : {b : ℕ} → Letter b → DigitOrUnderscore b → ⊥
+letter-only (Letter.capital p q) (DigitOrUnderscore.digit r s) = omega arith
+letter-only (Letter.capital p q) (DigitOrUnderscore.underscore e) = omega arith
+letter-only (Letter.small p q) (DigitOrUnderscore.digit r s) = omega arith
+letter-only (Letter.small p q) (DigitOrUnderscore.underscore e) = omega arith
+
+letter-range : {b : ℕ} → Letter b → (1 ≤ b) × (b ≤ 194)
+letter-range (Letter.capital p q) = (omega arith, omega arith)
+letter-range (Letter.small p q) = (omega arith, omega arith)
+
+mark-range : {b : ℕ} → DigitOrUnderscore b → (1 ≤ b) × (b ≤ 194)
+mark-range (DigitOrUnderscore.digit p q) = (omega arith, omega arith)
+mark-range (DigitOrUnderscore.underscore e) = (omega arith, omega arith)
+
+-- characters of one byte
+single-is : (b : ℕ) → single b ≡ ifTrue (either (isLetter b) (isDigitOrUnderscore b)) b 0
+unfolding single ifTrue
+single-is b = refl
+
+single-letter : (b : ℕ) → Letter b → single b ≡ b
+single-letter b l = single-is b ∙ when-true b 0 _ (either-first (isLetter b) (isDigitOrUnderscore b) (letter-out l))
+
+single-mark : (b : ℕ) → DigitOrUnderscore b → single b ≡ b
+single-mark b m = single-is b ∙ when-true b 0 _ (either-second (isLetter b) (isDigitOrUnderscore b) (mark-out m))
+
+single-in : (b : ℕ) → (single b ≡ 0 → ⊥) → Letter b ⊎ DigitOrUnderscore b
+single-in b h = go (either (isLetter b) (isDigitOrUnderscore b)) refl
+  where
+    go : (v : Bool) → either (isLetter b) (isDigitOrUnderscore b) ≡ v → Letter b ⊎ DigitOrUnderscore b
+    go true e = either-parts (isLetter b) _ e (λ l. inl (letter-in b l)) (λ m. inr (mark-in b m))
+    go false e = absurd (h (single-is b ∙ when-false b 0 _ e))
+
+-- characters of two bytes
+accented-is : (c : ℕ) → accented c ≡ ifTrue (both (between 128 191 c) (not (either (eqb c 151) (eqb c 183)))) (c + 64) 0
+unfolding accented ifTrue
+accented-is c = refl
+
+accented-in : (c : ℕ) → (accented c ≡ 0 → ⊥) → Accented 195 c
+accented-in c h = go (both (between 128 191 c) (not (either (eqb c 151) (eqb c 183)))) refl
+  where
+    go : (v : Bool) → both (between 128 191 c) (not (either (eqb c 151) (eqb c 183))) ≡ v → Accented 195 c
+    go true e =
+        let p = both-parts _ _ e in
+        let r = between-parts 128 191 c (p .0) in
+        let none = not-true (either (eqb c 151) (eqb c 183)) (p .1) in
+        record {
+          first = refl;
+          low = r .0;
+          high = r .1;
+          notTimes = λ q. failed (either (eqb c 151) (eqb c 183)) none (either-first (eqb c 151) (eqb c 183) (eq-eqb c 151 q));
+          notDivided = λ q. failed (either (eqb c 151) (eqb c 183)) none (either-second (eqb c 151) (eqb c 183) (eq-eqb c 183 q));
+        }
+    go false e = absurd (h (accented-is c ∙ when-false _ 0 _ e))
+
+accented-out : (b c : ℕ) → Accented b c → accented c ≡ c + 64
+accented-out b c a =
+    let none : either (eqb c 151) (eqb c 183) ≡ false =
+    not-so (either (eqb c 151) (eqb c 183)) (λ h. either-parts (eqb c 151) _ h (λ e. a .notTimes (eqb-true c 151 e)) (λ e. a .notDivided (eqb-true c 183 e))) in
+    accented-is c ∙ when-true (c + 64) 0 _ (both-join _ _ (between-out 128 191 c (a .low) (a .high)) (rw none))
+
+-- characters one by one
+char-is : (b c : ℕ) (bs : List ℕ) → characters (b ∷ c ∷ bs) ≡ ifEq b 195 (accented c ∷ characters bs) (single b ∷ characters (c ∷ bs))
+unfolding characters ifEq
+char-is b c bs = refl
+
+char-one : (b : ℕ) (bs : List ℕ) → (b ≡ 195 → ⊥) → characters (b ∷ bs) ≡ single b ∷ characters bs
+unfolding characters
+char-one b [] h = refl
+char-one b (c ∷ bs) h = char-is b c bs ∙ when-different _ _ b 195 h
+
+char-two : (b c : ℕ) (bs : List ℕ) → b ≡ 195 → characters (b ∷ c ∷ bs) ≡ accented c ∷ characters bs
+char-two b c bs h = char-is b c bs ∙ when-equal _ _ b 195 h
+
+-- no character is missing
+abbrev Found : List ℕ → Type 0
+Found cs = Every (λ c. c ≡ 0 → ⊥) cs
+
+spelled-out : {bs : List ℕ} → Spelled bs → Found (characters bs)
+unfolding characters
+spelled-out Spelled.end = every-0 (λ c. c ≡ 0 → ⊥)
+spelled-out (Spelled.letter {b = b} {bs = bs} l s) =
+    let r = letter-range l in
+    subst Found (sym (char-one b bs (λ e. omega arith)))
+    (every-more (λ c. c ≡ 0 → ⊥) (single b) (characters bs) (λ z. let q : single b ≡ b = single-letter b l in omega arith) (spelled-out s))
+spelled-out (Spelled.digit-or-underscore {b = b} {bs = bs} m s) =
+    let r = mark-range m in
+    subst Found (sym (char-one b bs (λ e. omega arith)))
+    (every-more (λ c. c ≡ 0 → ⊥) (single b) (characters bs) (λ z. let q : single b ≡ b = single-mark b m in omega arith) (spelled-out s))
+spelled-out (Spelled.accented {b = b} {c = c} {bs = bs} a s) =
+    subst Found (sym (char-two b c bs (a .first)))
+    (every-more (λ c. c ≡ 0 → ⊥) (accented c) (characters bs) (λ z. let q : accented c ≡ c + 64 = accented-out b c a in omega arith) (spelled-out s))
+
+-- what the first character, and the rest, give
+one-in : (b : ℕ) (bs : List ℕ) → (single b ≡ 0 → ⊥) → Spelled bs → Spelled (b ∷ bs)
+one-in b bs h s = ⊎-elim (λ l. Spelled.letter l s) (λ m. Spelled.digit-or-underscore m s) (single-in b h)
+
+two-in : (b c : ℕ) (bs : List ℕ) → b ≡ 195 → (accented c ≡ 0 → ⊥) → Accented b c
+two-in b c bs e h = rw e (accented-in c h)
+
+spelled-in : (bs : List ℕ) → Found (characters bs) → Spelled bs
+unfolding characters
+spelled-in [] h = Spelled.end
+spelled-in (b ∷ []) h = one-in b [] (h (single b) (here refl)) Spelled.end
+spelled-in (b ∷ c ∷ bs) h = go (eqb b 195) refl (spelled-in bs) (spelled-in (c ∷ bs))
+  where
+    go : (v : Bool) → eqb b 195 ≡ v → (Found (characters bs) → Spelled bs) → (Found (characters (c ∷ bs)) → Spelled (c ∷ bs)) → Spelled (b ∷ c ∷ bs)
+    go true e two one =
+        let k = eqb-true b 195 e in
+        let g = subst Found (char-two b c bs k) h in
+        Spelled.accented (two-in b c bs k (g (accented c) (here refl))) (two (λ x m. g x (there m)))
+    go false e two one =
+        let g = subst Found (char-one b (c ∷ bs) (eqb-false b 195 e)) h in
+        one-in b (c ∷ bs) (g (single b) (here refl)) (one (λ x m. g x (there m)))
+
+-- the first character
+name-in : {bs : List ℕ} → Spelled bs → startsWell (characters bs) ≡ true → SpelledName bs
+unfolding characters startsWell
+name-in Spelled.end w = absurd (false≢true w)
+name-in (Spelled.letter l s) w = SpelledName.letter l s
+name-in (Spelled.accented a s) w = SpelledName.accented a s
+name-in (Spelled.digit-or-underscore {b = b} {bs = bs} m s) w =
+    let r = mark-range m in
+    let e : characters (b ∷ bs) ≡ b ∷ characters bs = char-one b bs (λ z. omega arith) ∙ ap (λ (c : ℕ). c ∷ characters bs) (single-mark b m) in
+    let v : not (isDigitOrUnderscore b) ≡ true = ap startsWell (sym e) ∙ w in
+    failed (isDigitOrUnderscore b) (not-true _ v) (mark-out m)
+
+all-spelled : {bs : List ℕ} → SpelledName bs → Spelled bs
+all-spelled (SpelledName.letter l s) = Spelled.letter l s
+all-spelled (SpelledName.accented a s) = Spelled.accented a s
+
+starts : {bs : List ℕ} → SpelledName bs → startsWell (characters bs) ≡ true
+unfolding startsWell
+starts (SpelledName.letter {b = b} {bs = bs} l s) =
+    let r = letter-range l in
+    let e : characters (b ∷ bs) ≡ b ∷ characters bs = char-one b bs (λ z. omega arith) ∙ ap (λ (c : ℕ). c ∷ characters bs) (single-letter b l) in
+    ap startsWell e ∙ rw (not-so (isDigitOrUnderscore b) (λ h. letter-only l (mark-in b h)))
+starts (SpelledName.accented {b = b} {c = c} {bs = bs} a s) =
+    let e : characters (b ∷ c ∷ bs) ≡ (c + 64) ∷ characters bs =
+    char-two b c bs (a .first) ∙ ap (λ (d : ℕ). d ∷ characters bs) (accented-out b c a) in
+    ap startsWell e
+    ∙ rw (not-so (isDigitOrUnderscore (c + 64)) (λ h. past c (a .low) (mark-in (c + 64) h)))
+  where
+    past : (c : ℕ) → 128 ≤ c → DigitOrUnderscore (c + 64) → ⊥
+    past c low (DigitOrUnderscore.digit p q) = omega arith
+    past c low (DigitOrUnderscore.underscore e) = omega arith
+
+-- a record of a name that is not empty
+bytes-in : (rd : Reader) (j : ℕ) → hasBytes rd j ≡ true → rd j 1 ≡ 0 → rd j 2 ≡ 0 → ⊥
+unfolding hasBytes
+bytes-in rd j h p q = failed _ (not-true _ h) (both-join _ _ (eq-eqb _ 0 p) (eq-eqb _ 0 q))
+
+bytes-out : (rd : Reader) (j : ℕ) → (rd j 1 ≡ 0 → rd j 2 ≡ 0 → ⊥) → hasBytes rd j ≡ true
+unfolding hasBytes
+bytes-out rd j h =
+    rw (not-so (both (eqb (rd j 1) 0) (eqb (rd j 2) 0)) (λ b. let p = both-parts _ _ b in h (eqb-true _ 0 (p .0)) (eqb-true _ 0 (p .1))))
+
+-- a symbol's name
+pub good-in : (rd : Reader) (i : ℕ) → isName rd i ≡ true → GoodName rd i
+unfolding isName name
+good-in rd i h =
+    let p = both-parts _ _ h in
+    let q = both-parts _ _ (p .1) in
+    let found : Found (name rd i) = every-in (λ c. not (eqb c 0)) (λ c. c ≡ 0 → ⊥) (λ c t z. failed (eqb c 0) (not-true _ t) (eq-eqb c 0 z)) (name rd i) (q .0) in
+    record {
+      noneEmpty = every-in (hasBytes rd) (λ j. rd j 1 ≡ 0 → rd j 2 ≡ 0 → ⊥) (bytes-in rd) _ (p .0);
+      spelled = name-in (spelled-in (nameBytes rd (linked rd (nameOf rd i))) found) (q .1);
+    }
+
+pub good-out : (rd : Reader) (i : ℕ) → GoodName rd i → isName rd i ≡ true
+unfolding isName name
+good-out rd i g =
+    both-join _ _ (every-out (hasBytes rd) (λ j. rd j 1 ≡ 0 → rd j 2 ≡ 0 → ⊥) (bytes-out rd) _ (g .noneEmpty))
+    (both-join _ _
+    (every-out (λ c. not (eqb c 0)) (λ c. c ≡ 0 → ⊥) (λ c no. rw (ne-eqb c 0 no)) (name rd i) (spelled-out (all-spelled (g .spelled))))
+    (starts (g .spelled)))
+
+-- Names of one's own.
+
+same-name : (cs ds : List ℕ) → sameName cs ds ≡ true → cs ≡ ds
+unfolding sameName
+same-name [] [] h = refl
+same-name [] (d ∷ ds) h = absurd (false≢true h)
+same-name (c ∷ cs) [] h = absurd (false≢true h)
+same-name (c ∷ cs) (d ∷ ds) h = go (eqb c d) refl h (same-name cs ds)
+  where
+    go : (b : Bool) → eqb c d ≡ b → _≡_ {A = Bool} (elim b [ true ↦ sameName cs ds | false ↦ false ]) true → (sameName cs ds ≡ true → cs ≡ ds) → c ∷ cs ≡ d ∷ ds
+    go true e h ih = let p = eqb-true c d e in let q = ih h in cc
+    go false e h ih = absurd (false≢true h)
+
+-- name spaces
+space-type : (k : ℕ) → k ≡ 3 → nameSpace k ≡ 1
+unfolding nameSpace ifEq
+space-type k e = ap nameSpace e
+
+space-other : {k : ℕ} → ConstantOrFunction k → nameSpace k ≡ 2
+unfolding nameSpace ifEq
+space-other (ConstantOrFunction.constant e) = ap nameSpace e
+space-other (ConstantOrFunction.function e) = ap nameSpace e
+
+type-space : (k : ℕ) → nameSpace k ≡ 1 → k ≡ 3
+unfolding nameSpace ifEq
+type-space k h = go (eqb k 3) refl (eqb k 7) (eqb k 8) h
+  where
+    go : (a : Bool) → eqb k 3 ≡ a → (b c : Bool) →
+        _≡_ {A = ℕ} (elim a [ true ↦ 1 | false ↦ elim b [ true ↦ 2 | false ↦ elim c [ true ↦ 2 | false ↦ 0 ] ] ]) 1 → k ≡ 3
+    go true p b c h = eqb-true k 3 p
+    go false p true c h = absurd (omega arith)
+    go false p false true h = absurd (omega arith)
+    go false p false false h = absurd (omega arith)
+
+other-space : (k : ℕ) → nameSpace k ≡ 2 → ConstantOrFunction k
+unfolding nameSpace ifEq
+other-space k h = go (eqb k 3) refl (eqb k 7) refl (eqb k 8) refl h
+  where
+    go : (a : Bool) → eqb k 3 ≡ a → (b : Bool) → eqb k 7 ≡ b → (c : Bool) → eqb k 8 ≡ c →
+        _≡_ {A = ℕ} (elim a [ true ↦ 1 | false ↦ elim b [ true ↦ 2 | false ↦ elim c [ true ↦ 2 | false ↦ 0 ] ] ]) 2 → ConstantOrFunction k
+    go true p b q c r h = absurd (omega arith)
+    go false p true q c r h = ConstantOrFunction.constant (eqb-true k 7 q)
+    go false p false q true r h = ConstantOrFunction.function (eqb-true k 8 r)
+    go false p false q false r h = absurd (omega arith)
+
+-- no smaller record of a name space has the characters
+free-below : (rd : Reader) (space : ℕ) (cs : List ℕ) (n : ℕ) →
+    ((j : ℕ) → 1 ≤ j → j ≤ n → nameSpace (rd j 0) ≡ space → name rd j ≡ cs → ⊥) → takenBelow rd space cs n ≡ false
+unfolding takenBelow
+free-below rd space cs zero h = refl
+free-below rd space cs (suc n) h =
+    let none : both (eqb (nameSpace (rd (suc n) 0)) space) (sameName (name rd (suc n)) cs) ≡ false =
+    not-so _ (λ b. let p = both-parts _ _ b in h (suc n) (omega arith) (omega arith) (eqb-true _ space (p .0)) (same-name _ cs (p .1))) in
+    let rest : takenBelow rd space cs n ≡ false = free-below rd space cs n (λ j p q. h j p (omega arith)) in
+    simp (takenBelow, none) rest
+
+pub free-out : (rd : Reader) (i : ℕ) → ((j : ℕ) → 1 ≤ j → j < i → nameSpace (rd j 0) ≡ nameSpace (rd i 0) → name rd j ≡ name rd i → ⊥) → nameTaken rd i ≡ false
+unfolding nameTaken
+free-out rd zero h = refl
+free-out rd (suc n) h = free-below rd (nameSpace (rd (suc n) 0)) (name rd (suc n)) n (λ j p q. h j p (omega arith))
+
+-- a name that is not taken is one's own, and the other way round
+module _ (rd : Reader) (i : ℕ) where
+  pub own-type-in : nameTaken rd i ≡ false → rd i 0 ≡ 3 → (j : ℕ) → 1 ≤ j → j < i → rd j 0 ≡ 3 → name rd j ≡ name rd i → ⊥
+  own-type-in h e j p q f = smaller-name-differs rd i j h p q (space-type _ f ∙ sym (space-type _ e))
+
+  pub own-in : nameTaken rd i ≡ false → ConstantOrFunction (rd i 0) → (j : ℕ) → 1 ≤ j → j < i → ConstantOrFunction (rd j 0) → name rd j ≡ name rd i → ⊥
+  own-in h e j p q f = smaller-name-differs rd i j h p q (space-other f ∙ sym (space-other e))
+
+  pub own-out : Symbol (rd i 0) → (rd i 0 ≡ 3 → (j : ℕ) → 1 ≤ j → j < i → rd j 0 ≡ 3 → name rd j ≡ name rd i → ⊥) →
+      (ConstantOrFunction (rd i 0) → (j : ℕ) → 1 ≤ j → j < i → ConstantOrFunction (rd j 0) → name rd j ≡ name rd i → ⊥) → nameTaken rd i ≡ false
+  own-out (Symbol.given-type e) t o = free-out rd i (λ j p q f. t e j p q (type-space _ (f ∙ space-type _ e)))
+  own-out (Symbol.other e) t o = free-out rd i (λ j p q f. o e j p q (other-space _ (f ∙ space-other e)))
+
+-- a record that names a name is a symbol
+pub symbol-of : (rd : Reader) (i : ℕ) → (nameOf rd i ≡ 0 → ⊥) → Symbol (rd i 0)
+unfolding nameOf ifEq
+symbol-of rd i h = go (eqb (rd i 0) 3) refl (eqb (rd i 0) 7) refl (eqb (rd i 0) 8) refl h
+  where
+    go : (a : Bool) → eqb (rd i 0) 3 ≡ a → (b : Bool) → eqb (rd i 0) 7 ≡ b → (c : Bool) → eqb (rd i 0) 8 ≡ c →
+        (_≡_ {A = ℕ} (elim a [ true ↦ rd i 1 | false ↦ elim b [ true ↦ rd i 2 | false ↦ elim c [ true ↦ rd i 3 | false ↦ 0 ] ] ]) 0 → ⊥) → Symbol (rd i 0)
+    go true p b q c r h = Symbol.given-type (eqb-true _ 3 p)
+    go false p true q c r h = Symbol.other (ConstantOrFunction.constant (eqb-true _ 7 q))
+    go false p false q true r h = Symbol.other (ConstantOrFunction.function (eqb-true _ 8 r))
+    go false p false q false r h = absurd (h refl)

@@ -1,0 +1,2 @@
+// A proof node's refusal: 13 to 17.
+pub mod nodes;

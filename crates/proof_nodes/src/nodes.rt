@@ -1,0 +1,164 @@
+// The refusal of a node at a sequent: 13 to 17, the lower number first.
+use proof_forms::premises;
+use proof_forms::shapes;
+use proof_fresh::fresh;
+use proof_rows::needs;
+use proof_rows::paths;
+use reader::trees;
+use reader::words;
+ghost use mathlib.Core.Path.{_≡_};
+ghost use Prim.Native.Nat.{_≤_};
+ghost use lib.ListN.{length};
+ghost use Rattle.reader.specs.Words.{word};
+ghost use Rattle.reader.specs.Tests.{every};
+ghost use Rattle.reader.specs.Trees.{tree, atomOf};
+ghost use Rattle.reader_closedness.specs.Reaches.{Reached};
+ghost use Rattle.proof_rules.specs.Rules.{Row};
+ghost use Rattle.proof_rules.specs.Check.{isFresh, rowOf, nodeFault};
+ghost use Rattle.proof_members.specs.Sequents.{sequent};
+ghost use Rattle.proof_nodes.specs.Nodes.{mostAdded, roomFor, formFault, fitFault, At};
+
+// The atom of record i's tree: 0 for record 0.
+fn tree_atom(obligation: &[u8], second: &[u8], m: usize, i: usize) -> usize
+    ensures { λ r. ⌜ r ≡ atomOf (tree (word (now (obligation .entry)) (now (second .entry)) m) i) ⌝ }
+{
+    if i == 0 {
+        return 0;
+    }
+    trees::atom_at(obligation, second, m, i)
+}
+
+// Is the constant of node n fresh, where its rule has one? The table is scratch.
+fn constant_fresh(
+    obligation: &[u8],
+    second: &[u8],
+    m: usize,
+    numbers: &[usize],
+    memory: &[usize],
+    scratch: &mut [usize],
+    h: usize,
+    n: usize,
+) -> bool
+    requires { ⌜ At (word (now obligation) (now second) m) (now numbers) (now memory) (now scratch) h n ⌝ }
+    ensures { λ r. ⌜ r ≡ every (isFresh (sequent (word (now (obligation .entry)) (now (second .entry)) m) (now (memory .entry)) h)) (rowOf (word (now (obligation .entry)) (now (second .entry)) m) n .fresh) ⌝ }
+{
+    if words::word_at(obligation, second, m, n, 0) != 43 {
+        return true;
+    }
+    let part = paths::part_of(obligation, second, m, n, 1);
+    let c = tree_atom(obligation, second, m, part);
+    fresh::is_fresh(obligation, second, m, numbers, memory, scratch, h, c)
+}
+
+// How many members a premise of rule k adds at most.
+fn most_added(k: usize) -> usize
+    ensures { λ r. ⌜ (r ≡ mostAdded k) × (r ≤ 2) ⌝ }
+{
+    if k < 37 {
+        return 0;
+    }
+    if 46 < k {
+        return 0;
+    }
+    if k == 39 {
+        return 2;
+    }
+    if k == 40 {
+        return 2;
+    }
+    1
+}
+
+// Have the premises of a node of kind k room beside h members?
+fn has_room(h: usize, k: usize) -> bool
+    requires { ⌜ h ≤ 1024 ⌝ }
+    ensures { λ r. ⌜ r ≡ roomFor h k ⌝ }
+{
+    h + most_added(k) <= 1024
+}
+
+// Refusals 13 and 14 of node n, 0 for none.
+fn form_fault(
+    obligation: &[u8],
+    second: &[u8],
+    m: usize,
+    numbers: &[usize],
+    memory: &[usize],
+    scratch: &[usize],
+    h: usize,
+    n: usize,
+) -> usize
+    requires { ⌜ At (word (now obligation) (now second) m) (now numbers) (now memory) (now scratch) h n ⌝ }
+    ensures { λ r. ⌜ r ≡ formFault (word (now (obligation .entry)) (now (second .entry)) m) (sequent (word (now (obligation .entry)) (now (second .entry)) m) (now (memory .entry)) h) n ⌝ }
+{
+    if !shapes::shapes_fit(obligation, second, m, n) {
+        return 13;
+    }
+    if !premises::premises_fit(obligation, second, m, n) {
+        return 13;
+    }
+    if !needs::needs_hold(obligation, second, m, numbers, memory, h, n) {
+        return 14;
+    }
+    0
+}
+
+// Refusals 15 to 17 of node n, 0 for none. The table is scratch.
+fn fit_fault(
+    obligation: &[u8],
+    second: &[u8],
+    m: usize,
+    numbers: &[usize],
+    reaches: &[usize],
+    memory: &[usize],
+    scratch: &mut [usize],
+    h: usize,
+    n: usize,
+) -> usize
+    requires { ⌜ At (word (now obligation) (now second) m) (now numbers) (now memory) (now scratch) h n × Reached (word (now obligation) (now second) m) (now reaches) (length (now reaches)) ⌝ }
+    ensures { λ r. ⌜ r ≡ fitFault (word (now (obligation .entry)) (now (second .entry)) m) (sequent (word (now (obligation .entry)) (now (second .entry)) m) (now (memory .entry)) h) n ⌝ }
+{
+    if !proof_fits::fits(obligation, second, m, numbers, reaches, scratch, n) {
+        return 15;
+    }
+    if !constant_fresh(obligation, second, m, numbers, memory, scratch, h, n) {
+        return 16;
+    }
+    let k = words::word_at(obligation, second, m, n, 0);
+    if !has_room(h, k) {
+        return 17;
+    }
+    0
+}
+
+// The refusal of node n at the sequent of h members, 0 for none. The table is scratch.
+pub fn node_fault(
+    obligation: &[u8],
+    second: &[u8],
+    m: usize,
+    numbers: &[usize],
+    reaches: &[usize],
+    memory: &[usize],
+    scratch: &mut [usize],
+    h: usize,
+    n: usize,
+) -> usize
+    requires { ⌜ At (word (now obligation) (now second) m) (now numbers) (now memory) (now scratch) h n × Reached (word (now obligation) (now second) m) (now reaches) (length (now reaches)) ⌝ }
+    ensures { λ r. ⌜ r ≡ nodeFault (word (now (obligation .entry)) (now (second .entry)) m) (sequent (word (now (obligation .entry)) (now (second .entry)) m) (now (memory .entry)) h) n ⌝ }
+{
+    let why = form_fault(obligation, second, m, numbers, memory, scratch, h, n);
+    if why != 0 {
+        return why;
+    }
+    fit_fault(
+        obligation,
+        second,
+        m,
+        numbers,
+        reaches,
+        memory,
+        scratch,
+        h,
+        n,
+    )
+}

@@ -1,0 +1,118 @@
+-- A sequent with the members that a premise adds.
+use Prim.Native.Nat.{ℕ, _+_, _-_, _/_, _%_, _<_, _≤_}
+use mathlib.Core.Path.{_≡_, refl, sym, ap, _∙_}
+use mathlib.Core.List.{List, [], _∷_, _++_, append-assoc, append-nil}
+use mathlib.Core.Bool.{Bool, true, false}
+use lib.Dec.{eqb}
+use lib.ListN.{length, take, getD, length-append}
+use lib.Seq.{take-take}
+use native.Mathlib.Omega.{arith}
+use borrow.Author.Tests.{eq-eqb, ne-eqb}
+use Rattle.reader.specs.Words.{Reader}
+use Rattle.reader.specs.Tests.{ifEq}
+use Rattle.reader.specs.Trees.{Tree, tree, ¬ᵗ_, _=ᵗ_}
+use Rattle.proof_rules.specs.Rules.{Row}
+use Rattle.proof_rules.specs.Check.{rowOf, premiseSequent}
+use Rattle.proof_members.specs.Sequents.{sequent, Ready}
+use Rattle.proof_members.specs.Added.{Added}
+use Rattle.proof_rows.specs.Paths.{pathRecord, partTrees}
+use Rattle.proof_rows.specs.Forms.{leftPath, rightPath, formTree, oneTree, twoTrees, form-unequal, form-negated, form-plain}
+use Rattle.proof_rows.specs.Tables.{addForm, adds-of}
+
+-- after the trees were added to h members there are r
+pub record Grown (rd : Reader) (numbers before : List ℕ) (h : ℕ) (trees : List Tree) (after : List ℕ) (r : ℕ) : Type 0 where
+  pub ready : Ready rd numbers after r
+  pub more : sequent rd after r ≡ sequent rd before h ++ trees
+  pub kept : take h after ≡ take h before
+  pub count : r ≡ h + length trees
+
+-- how many members a form is
+unfoldable pub formCount : ℕ → ℕ
+formCount form = ifEq form 0 0 1
+
+pub one-none : (treeOf : ℕ → Tree) (form : ℕ) → form ≡ 0 → oneTree treeOf form ≡ []
+unfolding oneTree ifEq
+one-none treeOf form h = simp (oneTree, ifEq, eq-eqb form 0 h)
+
+pub one-some : (treeOf : ℕ → Tree) (form : ℕ) → (form ≡ 0 → ⊥) → oneTree treeOf form ≡ treeOf form ∷ []
+unfolding oneTree ifEq
+one-some treeOf form h = simp (oneTree, ifEq, ne-eqb form 0 h)
+
+one-length : (treeOf : ℕ → Tree) (form : ℕ) → length (oneTree treeOf form) ≡ formCount form
+unfolding oneTree formCount ifEq
+one-length treeOf form = go (eqb form 0)
+  where
+    go : (b : Bool) → length {A = Tree} (elim b as (λ x. List Tree) [ true ↦ [] | false ↦ treeOf form ∷ [] ]) ≡ elim b as (λ x. ℕ) [ true ↦ 0 | false ↦ 1 ]
+    go true = refl
+    go false = refl
+
+two-length : (treeOf : ℕ → Tree) (first last : ℕ) → length (twoTrees treeOf first last) ≡ formCount first + formCount last
+unfolding twoTrees
+two-length treeOf first last =
+    omega (arith, length-append (oneTree treeOf first) (oneTree treeOf last), one-length treeOf first, one-length treeOf last)
+
+-- The ways out of `add_one`.
+module _ (rd : Reader) (numbers before : List ℕ) (h n form : ℕ) where
+  pub grown-none : Ready rd numbers before h → form ≡ 0 → Grown rd numbers before h (oneTree (formTree (partTrees rd n)) form) before h
+  grown-none ready z =
+      rw (one-none (formTree (partTrees rd n)) form z)
+      (record { ready = ready; more = sym (append-nil (sequent rd before h)); kept = refl; count = omega arith })
+
+  pub grown-one : (after : List ℕ) → (form ≡ 0 → ⊥) → Added rd numbers before h (formTree (partTrees rd n) form) after →
+      Grown rd numbers before h (oneTree (formTree (partTrees rd n)) form) after (h + 1)
+  grown-one after z added =
+      rw (one-some (formTree (partTrees rd n)) form z)
+      (record { ready = added .ready; more = added .more; kept = added .kept; count = refl })
+
+  pub room-one : (form ≡ 0 → ⊥) → h + formCount form ≤ 1024 → h < 1024
+  unfolding formCount ifEq
+  room-one z p = let one : formCount form ≡ 1 = simp (formCount, ifEq, ne-eqb form 0 z) in omega arith
+
+-- two after each other
+pub grown-two : (rd : Reader) (numbers a b c : List ℕ) (h i j : ℕ) (s t : List Tree) → Grown rd numbers a h s b i → Grown rd numbers b i t c j →
+    Grown rd numbers a h (s ++ t) c j
+grown-two rd numbers a b c h i j s t f g =
+    let le : h ≤ i = omega (arith, f .count) in
+    record {
+      ready = g .ready;
+      more = g .more ∙ ap (λ (x : List Tree). x ++ t) (f .more) ∙ append-assoc (sequent rd a h) s t;
+      kept = sym (take-take h i c le) ∙ ap (λ (x : List ℕ). take h x) (g .kept) ∙ take-take h i b le ∙ f .kept;
+      count = omega (arith, f .count, g .count, length-append s t);
+    }
+
+-- what premise b of node n adds
+pub premise-grown : (rd : Reader) (numbers before after : List ℕ) (h n b k first last r : ℕ) → k ≡ rd n 0 → first ≡ addForm k b 0 → last ≡ addForm k b 1 →
+    Grown rd numbers before h (twoTrees (formTree (partTrees rd n)) first last) after r →
+    Grown rd numbers before h (getD (rowOf rd n .adds) b []) after r
+premise-grown rd numbers before after h n b k first last r ek ef el g = rw (adds-of rd n b, ← ek, ← ef, ← el) g
+
+-- the room that a premise's members need
+module _ (rd : Reader) (n b k first last h : ℕ) (ek : k ≡ rd n 0) (ef : first ≡ addForm k b 0) (el : last ≡ addForm k b 1)
+    (room : h + length (getD (rowOf rd n .adds) b []) ≤ 1024) where
+  both-counted : length (getD (rowOf rd n .adds) b []) ≡ formCount first + formCount last
+  both-counted = rw (adds-of rd n b, ← ek, ← ef, ← el) (two-length (formTree (partTrees rd n)) first last)
+
+  pub room-first : h + formCount first ≤ 1024
+  room-first = omega (arith, both-counted)
+
+  pub room-last : (numbers before after : List ℕ) (i : ℕ) → Grown rd numbers before h (oneTree (formTree (partTrees rd n)) first) after i → i + formCount last ≤ 1024
+  room-last numbers before after i g = omega (arith, both-counted, g .count, one-length (formTree (partTrees rd n)) first)
+
+  pub premise-added : (numbers before between after : List ℕ) (i r : ℕ) → Grown rd numbers before h (oneTree (formTree (partTrees rd n)) first) between i →
+      Grown rd numbers between i (oneTree (formTree (partTrees rd n)) last) after r → Grown rd numbers before h (getD (rowOf rd n .adds) b []) after r
+  unfolding twoTrees
+  premise-added numbers before between after i r f g =
+      premise-grown rd numbers before after h n b k first last r ek ef el (grown-two rd numbers before between after h i r _ _ f g)
+
+-- The ways out of `add_form`.
+module _ (rd : Reader) (numbers before after : List ℕ) (h n form : ℕ) where
+  pub added-unequal : form < 8 → (a b t u : ℕ) → a ≡ leftPath form → b ≡ rightPath form → t ≡ pathRecord rd n a → u ≡ pathRecord rd n b →
+      Added rd numbers before h (¬ᵗ (tree rd t =ᵗ tree rd u)) after → Added rd numbers before h (formTree (partTrees rd n) form) after
+  added-unequal l a b t u ea eb et eu added = rw (← form-unequal rd n form l a b t u ea eb et eu) added
+
+  module _ (high : 8 ≤ form) (x : ℕ) (ex : x ≡ pathRecord rd n ((form - 8) / 2)) where
+    pub added-negated : form % 2 ≡ 1 → Added rd numbers before h (¬ᵗ (tree rd x)) after → Added rd numbers before h (formTree (partTrees rd n) form) after
+    added-negated e added = rw (← form-negated rd n form high x ex e) added
+
+    pub added-plain : (form % 2 ≡ 1 → ⊥) → Added rd numbers before h (tree rd x) after → Added rd numbers before h (formTree (partTrees rd n) form) after
+    added-plain e added = rw (← form-plain rd n form high x ex e) added

@@ -1,0 +1,2 @@
+// The walk over a proof: a node, then its premises in chain order.
+pub mod walk;

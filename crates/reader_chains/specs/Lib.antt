@@ -1,0 +1,4 @@
+pub mod Outcomes
+pub mod Parts
+pub mod Shapes
+pub mod Chains

@@ -1,0 +1,3 @@
+pub mod Cursor
+pub mod Laws
+pub mod Spelling

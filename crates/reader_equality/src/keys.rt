@@ -1,0 +1,152 @@
+// The key of a record, from a table of the smaller records; where the search for a key starts and how it goes on. Types may be left out.
+use crate::Key;
+use crate::tables;
+use reader::kinds;
+use reader::trees;
+use reader::words;
+ghost use mathlib.Core.Path.{_≡_};
+ghost use Prim.Native.Nat.{_<_, _≤_};
+ghost use lib.ListN.{length};
+ghost use Rattle.reader.specs.Words.{word};
+ghost use Rattle.reader.specs.Trees.{atom};
+ghost use Rattle.reader_equality.specs.Keys.{isPart, partAt, partEntry, keyFrom, bucketOf, sideOf, turned, sameKey};
+
+// What tells record i, whose kind is k, from others of its kind.
+fn atom_of(obligation: &[u8], second: &[u8], m: usize, i: usize, k: usize) -> usize
+    requires { ⌜ k ≡ word (now obligation) (now second) m i 0 ⌝ }
+    ensures { λ r. ⌜ r ≡ atom (word (now (obligation .entry)) (now (second .entry)) m) i ⌝ }
+{
+    if kinds::is_symbol(k) {
+        return i;
+    }
+    if kinds::is_number(kinds::role_of(k, 1)) {
+        return words::word_at(obligation, second, m, i, 1);
+    }
+    0
+}
+
+// Is a word of this role a part of the tree? Where types do not count, a type or a chain of types is none.
+fn is_part(types: bool, role: u8) -> bool
+    ensures { λ r. ⌜ r ≡ isPart types role ⌝ }
+{
+    if role < 10 {
+        return false;
+    }
+    if types {
+        return true;
+    }
+    if role == 12 {
+        return false;
+    }
+    role != 16
+}
+
+// The part that word w of record i, whose kind is k, refers to; 0 for none.
+pub fn part_at(
+    obligation: &[u8],
+    second: &[u8],
+    m: usize,
+    types: bool,
+    i: usize,
+    k: usize,
+    w: u8,
+) -> usize
+    requires { ⌜ k ≡ word (now obligation) (now second) m i 0 ⌝ }
+    ensures { λ r. ⌜ r ≡ partAt (word (now (obligation .entry)) (now (second .entry)) m) types i w ⌝ }
+{
+    if !is_part(types, kinds::role_of(k, w)) {
+        return 0;
+    }
+    trees::lower_at(obligation, second, m, i, w)
+}
+
+// What the table says of that part.
+pub fn part_entry(
+    obligation: &[u8],
+    second: &[u8],
+    m: usize,
+    types: bool,
+    table: &[usize],
+    i: usize,
+    k: usize,
+    w: u8,
+) -> usize
+    requires { ⌜ (k ≡ word (now obligation) (now second) m i 0) × (0 < i) × (i ≤ length (now table)) ⌝ }
+    ensures { λ r. ⌜ r ≡ partEntry (word (now (obligation .entry)) (now (second .entry)) m) types (now (table .entry)) i w ⌝ }
+{
+    let x = part_at(obligation, second, m, types, i, k, w);
+    tables::entry(table, x)
+}
+
+// The key of record i.
+pub fn key_at(
+    obligation: &[u8],
+    second: &[u8],
+    m: usize,
+    types: bool,
+    table: &[usize],
+    i: usize,
+) -> Key
+    requires { ⌜ (0 < i) × (i ≤ length (now table)) ⌝ }
+    ensures { λ r. ⌜ r ≡ keyFrom (word (now (obligation .entry)) (now (second .entry)) m) types (now (table .entry)) i ⌝ }
+{
+    let kind = words::word_at(obligation, second, m, i, 0);
+    Key {
+        kind,
+        atom: atom_of(obligation, second, m, i, kind),
+        first: part_entry(obligation, second, m, types, table, i, kind, 1),
+        second: part_entry(obligation, second, m, types, table, i, kind, 2),
+        third: part_entry(obligation, second, m, types, table, i, kind, 3),
+    }
+}
+
+// Are two keys equal?
+pub fn same_key(k: Key, l: Key) -> bool
+    ensures { λ r. ⌜ r ≡ sameKey k l ⌝ }
+{
+    if k.kind != l.kind {
+        return false;
+    }
+    if k.atom != l.atom {
+        return false;
+    }
+    if k.first != l.first {
+        return false;
+    }
+    if k.second != l.second {
+        return false;
+    }
+    k.third == l.third
+}
+
+// The slot at which the search for a key starts.
+pub fn bucket_of(k: Key) -> usize
+    ensures { λ r. ⌜ r ≡ bucketOf k ⌝ }
+{
+    (k.kind % 4096 * 1031
+        + k.atom % 4096 * 2777
+        + k.first % 4096 * 797
+        + k.second % 4096 * 3061
+        + k.third % 4096 * 397)
+        % 4096
+}
+
+// The side on which the search for a key goes on.
+pub fn side_of(k: Key) -> usize
+    ensures { λ r. ⌜ r ≡ sideOf k ⌝ }
+{
+    k.kind % 2
+}
+
+// The key with which it goes on.
+pub fn turned(k: Key) -> Key
+    ensures { λ r. ⌜ r ≡ turned k ⌝ }
+{
+    Key {
+        kind: k.atom,
+        atom: k.first,
+        first: k.second,
+        second: k.third,
+        third: k.kind / 2,
+    }
+}

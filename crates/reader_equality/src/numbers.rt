@@ -1,0 +1,77 @@
+// The numbers of records' trees: equal trees share a number, the least record that has the tree.
+use crate::slots;
+use crate::tables;
+use reader::trees;
+ghost use mathlib.Core.Path.{_≡_};
+ghost use Prim.Native.Nat.{_+_, _*_, _<_, _≤_};
+ghost use lib.ListN.{length};
+ghost use Rattle.reader.specs.Words.{word};
+ghost use Rattle.reader.specs.Trees.{tree, same};
+ghost use Rattle.reader_equality.specs.Least.{least, Numbered};
+
+// The number of record i.
+pub fn number_of(obligation: &[u8], second: &[u8], m: usize, table: &[usize], i: usize) -> usize
+    requires { ⌜ (i < length (now table)) × Numbered (word (now obligation) (now second) m) (now table) (length (now table)) ⌝ }
+    ensures { λ r. ⌜ r ≡ least (word (now (obligation .entry)) (now (second .entry)) m) i ⌝ }
+{
+    tables::entry(table, i)
+}
+
+// Do records i and j stand for equal trees?
+pub fn same_number(
+    obligation: &[u8],
+    second: &[u8],
+    m: usize,
+    table: &[usize],
+    i: usize,
+    j: usize,
+) -> bool
+    requires { ⌜ (i < length (now table)) × (j < length (now table)) × Numbered (word (now obligation) (now second) m) (now table) (length (now table)) ⌝ }
+    ensures { λ r. ⌜ r ≡ same (tree (word (now (obligation .entry)) (now (second .entry)) m) i) (tree (word (now (obligation .entry)) (now (second .entry)) m) j) ⌝ }
+{
+    number_of(obligation, second, m, table, i) == number_of(obligation, second, m, table, j)
+}
+
+// The same for any two records: by their numbers where the table has both.
+pub fn same_at(
+    obligation: &[u8],
+    second: &[u8],
+    m: usize,
+    table: &[usize],
+    i: usize,
+    j: usize,
+) -> bool
+    requires { ⌜ Numbered (word (now obligation) (now second) m) (now table) (length (now table)) ⌝ }
+    ensures { λ r. ⌜ r ≡ same (tree (word (now (obligation .entry)) (now (second .entry)) m) i) (tree (word (now (obligation .entry)) (now (second .entry)) m) j) ⌝ }
+{
+    if table.len() <= i {
+        return trees::same_at(obligation, second, m, i, j);
+    }
+    if table.len() <= j {
+        return trees::same_at(obligation, second, m, i, j);
+    }
+    same_number(obligation, second, m, table, i, j)
+}
+
+// Fills the table with the numbers of all its records; past the end of the files a record reads as zeros. The slots are scratch.
+pub fn number_all(
+    obligation: &[u8],
+    second: &[u8],
+    m: usize,
+    table: &mut [usize],
+    slots: &mut [u32],
+)
+    requires { ⌜ (length (now table) ≤ 4294967296) × (4096 + 2 * length (now table) ≤ length (now slots)) ⌝ }
+    ensures { λ _. ⌜ Numbered (word (now (obligation .entry)) (now (second .entry)) m) (now (table .exit)) (length (now (table .exit))) ⌝ }
+{
+    slots::clear(slots);
+    if table.len() == 0 {
+        return;
+    }
+    table[0] = 0;
+    let mut i: usize = 1;
+    while i < table.len() {
+        table[i] = slots::place(obligation, second, m, true, table, slots, i);
+        i += 1;
+    }
+}

@@ -1,0 +1,57 @@
+use borrow.Author.Needs.{needs}
+use mathlib.Core.Path.{_≡_, sym, _∙_}
+use mathlib.Core.Bool.{true}
+use borrow.Author.Tests.{not-false}
+use lib.ListN.{length}
+use Rattle.reader.specs.Words.{word}
+use Rattle.reader.specs.Tests.{every}
+use Rattle.reader_characters.specs.Cursor.{spelled}
+use Rattle.reader_characters.specs.Spelling.{spelled-falls}
+use Rattle.reader_names.specs.NameKeys.{spread, nameKey, isSmall, key-start, step-small, value-small, key-stop, key-go, key-none, key-all}
+use Rattle.reader_names.proofs.keys.key_of.Statement.{statement}
+use Rattle.reader_names.proofs.keys.key_of.Tie as tie
+
+abbrev Inv-loop : tie.InvT-loop
+Inv-loop obligation second m i first key₀ s₀ key s =
+    (nameKey (word obligation second m) i ≡ spread key (spelled (word obligation second m) s)) × (every isSmall (spelled (word obligation second m) s) ≡ true)
+
+abbrev μ-loop : tie.MeasureT-loop
+μ-loop obligation second m i first key₀ s₀ key s = length (spelled (word obligation second m) s)
+
+pub key-of-spec : {M : Type 1} → statement M
+key-of-spec = tie.close (tie.spec
+    Inv-loop μ-loop
+    -- word-at-requires: 2 args
+    (λ c κs. search needs)
+    -- space-of-requires: word-at; 3 args
+    (λ c κs. search needs)
+    -- space-key-requires: space-of; 1 word-at; 4 args
+    (λ c κs. search needs)
+    -- name-of-requires: space-key; 1 space-of; 2 word-at; 5 args
+    (λ c κs. search needs)
+    -- next-character-requires: name-of; 1 space-key; 2 space-of; 3 word-at; 6 args
+    (λ c κs. search needs)
+    -- loop-holds: next-character; 1 name-of; 2 space-key; 3 space-of; 4 word-at; 7 args
+    (λ c. (search key-start, search step-small))
+    -- has-room-requires: loop-test; 1 loop; 2 next-character; 3 name-of; 4 space-key; 5 space-of; 6 word-at; 9 args
+    (λ c κs. search needs)
+    -- space-key-requires-2: if1; 1 has-room; 2 loop-test; 3 loop; 4 next-character; 5 name-of; 6 space-key; 7 space-of; 8 word-at; 11 args
+    (λ c κs. search needs)
+    -- returns: space-key2; 1 if1; 2 has-room; 3 loop-test; 4 loop; 5 next-character; 6 name-of; 7 space-key; 8 space-of; 9 word-at; 12 args
+    (λ c. search key-stop)
+    -- dealt-requires: if1; 1 has-room; 2 loop-test; 3 loop; 4 next-character; 5 name-of; 6 space-key; 7 space-of; 8 word-at; 11 args
+    (λ c κs. let l = c .before .before .before .loop .inv in (sym (c .before .has-room .ensures) ∙ not-false _ (c .if1 .left), value-small _ _ _ _ (l .0) (c .before .before .loop-test .taken) (l .1)))
+    -- next-character-requires-2: dealt; 1 if1; 2 has-room; 3 loop-test; 4 loop; 5 next-character; 6 name-of; 7 space-key; 8 space-of; 9 word-at; 12 args
+    (λ c κs. search needs)
+    -- loop-less: next-character2; 1 dealt; 2 if1; 3 has-room; 4 loop-test; 5 loop; 6 next-character; 7 name-of; 8 space-key; 9 space-of; 10 word-at; 13 args
+    (λ c. search spelled-falls)
+    -- loop-again: next-character2; 1 dealt; 2 if1; 3 has-room; 4 loop-test; 5 loop; 6 next-character; 7 name-of; 8 space-key; 9 space-of; 10 word-at; 13 args
+    (λ c. (search key-go, search step-small))
+    -- space-key-requires-3: if2; 1 struct-known; 2 loop-test; 3 loop; 4 next-character; 5 name-of; 6 space-key; 7 space-of; 8 word-at; 11 args
+    (λ c κs. search needs)
+    -- returns-2: space-key3; 1 if2; 2 struct-known; 3 loop-test; 4 loop; 5 next-character; 6 name-of; 7 space-key; 8 space-of; 9 word-at; 12 args
+    (λ c. search key-none)
+    -- mixed-requires: if2; 1 struct-known; 2 loop-test; 3 loop; 4 next-character; 5 name-of; 6 space-key; 7 space-of; 8 word-at; 11 args
+    (λ c κs. search needs)
+    -- returns-3: mixed; 1 if2; 2 struct-known; 3 loop-test; 4 loop; 5 next-character; 6 name-of; 7 space-key; 8 space-of; 9 word-at; 12 args
+    (λ c. search key-all))

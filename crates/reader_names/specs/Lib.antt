@@ -1,0 +1,4 @@
+pub mod Symbols
+pub mod NameKeys
+pub mod Room
+pub mod Taken

@@ -1,0 +1,2 @@
+// Places 1 to 12 of an obligation and a proof or derivation.
+pub mod places;

@@ -1,0 +1,178 @@
+// The refusal of a record, and the first record with one.
+use reader::Answer;
+use reader_references::ranges;
+use reader_references::references;
+use reader_weights::weights;
+ghost use mathlib.Core.Path.{_≡_};
+ghost use mathlib.Core.Bool.{true};
+ghost use Prim.Native.Nat.{_+_, _-_, _*_, _<_, _≤_};
+ghost use lib.ListN.{length};
+ghost use Rattle.reader.specs.Words.{word};
+ghost use Rattle.reader.specs.Trees.{tree};
+ghost use Rattle.reader.specs.Weight.{weight};
+ghost use Rattle.reader_equality.specs.Least.{Numbered};
+ghost use Rattle.reader.specs.Answers.{firstFault};
+ghost use Rattle.reader.specs.Records.{nameFits, chainsFit, typingFits, wordsFault, contentFault, recordFault};
+ghost use Rattle.reader_names.specs.Taken.{Room, Names};
+ghost use Rattle.reader_weights.specs.Weights.{capped, Filled, fileOf};
+
+// Have the chains of record i their lengths?
+fn chains_fit(obligation: &[u8], second: &[u8], m: usize, i: usize) -> bool
+    ensures { λ r. ⌜ r ≡ chainsFit (word (now (obligation .entry)) (now (second .entry)) m) i ⌝ }
+{
+    if !reader_names::name_fits(obligation, second, m, i) {
+        return false;
+    }
+    references::chains_of(obligation, second, m, i)
+}
+
+// Is record i typed as its kind asks, where the file of kind `mode` is typed?
+fn typing_fits(
+    obligation: &[u8],
+    second: &[u8],
+    m: usize,
+    mode: u8,
+    numbers: &[usize],
+    seen: &mut [usize],
+    i: usize,
+) -> bool
+    requires { ⌜ Numbered (word (now obligation) (now second) m) (now numbers) (length (now numbers)) ⌝ }
+    ensures { λ r. ⌜ r ≡ typingFits mode (word (now (obligation .entry)) (now (second .entry)) m) i ⌝ }
+{
+    if mode == 2 {
+        return true;
+    }
+    reader_typing::records::is_typed(obligation, second, m, numbers, seen, i)
+}
+
+// Refusals 3 to 6 of record i, 0 for none.
+fn words_fault(obligation: &[u8], second: &[u8], m: usize, mode: u8, i: usize) -> usize
+    ensures { λ r. ⌜ r ≡ wordsFault mode (word (now (obligation .entry)) (now (second .entry)) m) i ⌝ }
+{
+    if !ranges::kind_fits(obligation, second, m, mode, i) {
+        return 3;
+    }
+    if !ranges::ranges_fit(obligation, second, m, i) {
+        return 4;
+    }
+    if !references::references_fit(obligation, second, m, i) {
+        return 5;
+    }
+    if !chains_fit(obligation, second, m, i) {
+        return 6;
+    }
+    0
+}
+
+// Refusals 7 to 10 of record i, whose weight is w, 0 for none. The slots have the names below i, and where none is refused, then that of i.
+fn content_fault(
+    obligation: &[u8],
+    second: &[u8],
+    m: usize,
+    mode: u8,
+    numbers: &[usize],
+    seen: &mut [usize],
+    slots: &mut [u32],
+    i: usize,
+    w: usize,
+) -> usize
+    requires { ⌜ (w ≡ capped (weight (tree (word (now obligation) (now second) m) i))) × Numbered (word (now obligation) (now second) m) (now numbers) (length (now numbers)) × (0 < i) × Room (now slots) i × Names (word (now obligation) (now second) m) (now slots) i × (nameFits (word (now obligation) (now second) m) i ≡ true) ⌝ }
+    ensures { λ r. ⌜ (r ≡ contentFault mode (word (now (obligation .entry)) (now (second .entry)) m) i) × (r ≡ 0 → Names (word (now (obligation .entry)) (now (second .entry)) m) (now (slots .exit)) (i + 1)) ⌝ }
+{
+    if !weights::weight_fits(obligation, second, m, mode, i, w) {
+        return 7;
+    }
+    if !reader_names::name_stands(obligation, second, m, i) {
+        return 8;
+    }
+    if !reader_names::name_is_free(obligation, second, m, slots, i) {
+        return 9;
+    }
+    if !typing_fits(obligation, second, m, mode, numbers, seen, i) {
+        return 10;
+    }
+    0
+}
+
+// The refusal of record i of a file of kind `mode`, 0 for none; the slots as in `content_fault`.
+fn record_fault(
+    obligation: &[u8],
+    second: &[u8],
+    m: usize,
+    mode: u8,
+    numbers: &[usize],
+    seen: &mut [usize],
+    slots: &mut [u32],
+    i: usize,
+    w: usize,
+) -> usize
+    requires { ⌜ (w ≡ capped (weight (tree (word (now obligation) (now second) m) i))) × Numbered (word (now obligation) (now second) m) (now numbers) (length (now numbers)) × (0 < i) × Room (now slots) i × Names (word (now obligation) (now second) m) (now slots) i ⌝ }
+    ensures { λ r. ⌜ (r ≡ recordFault mode (word (now (obligation .entry)) (now (second .entry)) m) i) × (r ≡ 0 → Names (word (now (obligation .entry)) (now (second .entry)) m) (now (slots .exit)) (i + 1)) ⌝ }
+{
+    let why = words_fault(obligation, second, m, mode, i);
+    if why != 0 {
+        return why;
+    }
+    content_fault(obligation, second, m, mode, numbers, seen, slots, i, w)
+}
+
+// Fills the table with the weights of records 1 to last.
+pub fn weigh_all(obligation: &[u8], second: &[u8], m: usize, table: &mut [u16], last: usize)
+    requires { ⌜ (last < length (now table)) × Filled (word (now obligation) (now second) m) (now table) 1 ⌝ }
+    ensures { λ _. ⌜ Filled (word (now (obligation .entry)) (now (second .entry)) m) (now (table .exit)) (last + 1) ⌝ }
+{
+    let mut i: usize = 1;
+    while i <= last {
+        let w = weights::weigh(obligation, second, m, table, i);
+        table[i] = w as u16;
+        i += 1;
+    }
+}
+
+// The first record from `first` to `last` with a refusal, in file 1 for an obligation (mode 0), else 2. The table has the weights
+// below `first`, the slots the names; `seen` is scratch.
+pub fn first_fault(
+    obligation: &[u8],
+    second: &[u8],
+    m: usize,
+    mode: u8,
+    numbers: &[usize],
+    seen: &mut [usize],
+    slots: &mut [u32],
+    table: &mut [u16],
+    first: usize,
+    last: usize,
+) -> Answer
+    requires { ⌜ (0 < first) × (last < length (now table)) × Filled (word (now obligation) (now second) m) (now table) first × Numbered (word (now obligation) (now second) m) (now numbers) (length (now numbers)) × Room (now slots) last × Names (word (now obligation) (now second) m) (now slots) first ⌝ }
+    ensures { λ r. ⌜ r ≡ firstFault (recordFault mode (word (now (obligation .entry)) (now (second .entry)) m)) (fileOf mode) (last + 1 - first) first ⌝ }
+{
+    let file = file_of(mode);
+    let mut i = first;
+    while i <= last {
+        let w = weights::weigh(obligation, second, m, table, i);
+        let why = record_fault(obligation, second, m, mode, numbers, seen, slots, i, w);
+        if why != 0 {
+            return Answer {
+                refusal: why,
+                file,
+                at: i,
+                nodes: 0,
+            };
+        }
+        table[i] = w as u16;
+        i += 1;
+    }
+    Answer {
+        refusal: 0,
+        file: 0,
+        at: 0,
+        nodes: 0,
+    }
+}
+
+// The number of a file of kind `mode` in an answer.
+fn file_of(mode: u8) -> usize
+    ensures { λ r. ⌜ r ≡ fileOf mode ⌝ }
+{
+    if mode == 0 { 1 } else { 2 }
+}

@@ -1,0 +1,2 @@
+pub mod SetsAndPairs
+pub mod Types

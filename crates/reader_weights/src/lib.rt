@@ -1,0 +1,2 @@
+// Weights of records, in a table: refusal 7.
+pub mod weights;

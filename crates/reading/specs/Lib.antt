@@ -1,4 +1,0 @@
-pub mod Headers
-pub mod Roots
-pub mod Places
-pub mod Pack
