@@ -13,17 +13,18 @@ use Rattle.reader.specs.Tests.{ifEq}
 use Rattle.reader.specs.Kinds.{isRule}
 use Rattle.reader.specs.Trees.{child}
 use Rattle.reader.specs.Chains.{linked}
-use Rattle.reader.specs.Laws.{child-below}
+use Rattle.reader.specs.TreeLaws.{child-below}
 use Rattle.reader.specs.Answers.{orAnswer}
 use Rattle.reader.specs.Places.{mostRecords, hypothesisChain, negatedGoal, countOf, rootOf, reading}
-use Rattle.reader_places.specs.Places.{Roomy}
+use Rattle.reader_bodies.specs.Places.{Roomy}
 use Rattle.reader_chains.specs.Shapes.{first-tree, child-zero}
 use Rattle.reader_laws.specs.File.{ReadObligation, ReadSecond, beside, lastOf, reading-parts, length-parts, header-parts, counts-parts}
 use Rattle.reader_laws.specs.Parts.{bound-variable-first}
 use Rattle.reader_laws.specs.Pair.{header-kind, pair-sound, rule-range, root-range, pair-goal-range, pair-hypotheses-range, pair-hypotheses-limit}
 use Rattle.reader_laws.specs.Under.{under, root-under}
 use Rattle.derivation_rules.specs.Erase.{bareTree}
-use Rattle.derivation_rules.specs.Check.{hypotheses, goalOf, startSequent, derivationWalk, derivationAnswer}
+use Rattle.derivation_rules.specs.Check.{bareHypotheses, bareGoal, startState, derivationWalk, derivationAnswer}
+use Rattle.derivation_rules.specs.StartLaws.{bare-hypotheses}
 use Rattle.derivation_trees.specs.Keys.{decoded}
 use Rattle.derivation_trees.specs.Table.{Table, KeyOf}
 use Rattle.derivation_closedness.specs.Reaches.{Indexed, Reached}
@@ -47,7 +48,7 @@ pub record Started (rd : Reader) (size : ℕ) (before frames : List ℕ) : Type 
   pub below : (i : ℕ) → i < 4 → getD frames i 0 ≡ getD before i 0
   pub above : (i : ℕ) → 8 ≤ i → getD frames i 0 ≡ getD before i 0
   pub framed : Framed rd size frames 1
-  pub state : stateOf rd frames 1 ≡ startSequent rd
+  pub state : stateOf rd frames 1 ≡ startState rd
 
 pub formula-in : (rd : Reader) (keys frames : List ℕ) (negated formula : ℕ) → Starting rd keys frames → negated ≡ rd 0 3 → formula ≡ child rd negated 1 → formula < length keys
 formula-in rd keys frames zero formula s en ef = omega (arith, child-zero rd 1, s .goal)
@@ -58,7 +59,7 @@ formula-in rd keys frames (suc negated) formula s en ef =
 pub root-written : (rd : Reader) (keys before after : List ℕ) (chain negated formula goal count : ℕ) → Starting rd keys before → chain ≡ rd 0 2 → negated ≡ rd 0 3 → formula ≡ child rd negated 1 →
     KeyOf rd (length keys) goal (bareTree rd formula) → count ≡ length (linked rd chain) → length after ≡ length before → Written 1 1 goal chain count before after →
     Started rd (length keys) before after
-unfolding stateOf startSequent hypotheses goalOf chainTrees bareTree
+unfolding stateOf startState bareGoal chainTrees bareTree
 root-written rd keys before after chain negated formula goal count s ec en ef key el l w = record {
   below = w .below;
   above = w .above;
@@ -70,10 +71,10 @@ root-written rd keys before after chain negated formula goal count s ec en ef ke
     few : length (linked rd chain) ≤ 256
     few = rw ec (s .few)
 
-    members : membersAt rd after 1 ≡ hypotheses rd
-    members = members-set rd (length keys) 0 goal chain count before after w ∙ rw ec refl
+    members : membersAt rd after 1 ≡ bareHypotheses rd
+    members = members-set rd (length keys) 0 goal chain count before after w ∙ rw ec (sym (bare-hypotheses rd))
 
-    goal-is : decoded rd (goalAt after 1) ≡ goalOf rd
+    goal-is : decoded rd (goalAt after 1) ≡ bareGoal rd
     goal-is = ap (decoded rd) (w .goal-is) ∙ key .stands .means ∙ rw (ef, en, first-tree rd (negatedGoal rd)) refl
 
 -- the pair passes places 1 to 12, and the tables have their lengths

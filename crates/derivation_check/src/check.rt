@@ -12,7 +12,7 @@ ghost use Rattle.reader.specs.Words.{word};
 ghost use Rattle.reader.specs.Places.{rootOf};
 ghost use Rattle.reader_equality.specs.Tables.{Zeros};
 ghost use Rattle.reader_naming.specs.Totals.{Cleared};
-ghost use Rattle.reader_places.specs.Places.{Blank, Roomy};
+ghost use Rattle.reader_bodies.specs.Places.{Blank, Roomy};
 ghost use Rattle.derivation_rules.specs.Check.{derivationWalk, derivationAnswer};
 ghost use Rattle.derivation_check.specs.Started.{Entering};
 

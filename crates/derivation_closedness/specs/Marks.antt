@@ -13,7 +13,7 @@ use Rattle.reader.specs.Tests.{both, either, ifEq, ifTrue}
 use Rattle.reader.specs.Kinds.{isSymbol}
 use Rattle.reader.specs.Trees.{Tree, child, atom, ¬ᵗ_}
 use Rattle.reader.specs.Variables.{isConstant, occurs}
-use Rattle.reader.specs.Laws.{below, child-below}
+use Rattle.reader.specs.TreeLaws.{below, child-below}
 use Rattle.reader_equality.specs.Keys.{partAt, part-below}
 use Rattle.derivation_rules.specs.Erase.{bareTree}
 use Rattle.derivation_trees.specs.Erased.{bare-zero, bare-true, bare-all, bare-node}

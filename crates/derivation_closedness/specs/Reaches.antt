@@ -11,7 +11,7 @@ use borrow.Author.Tests.{eqb-true, eqb-false, ltb-true, ltb-false, le-ltb}
 use Rattle.reader.specs.Words.{Reader}
 use Rattle.reader.specs.Tests.{ifEq, ifLt, ifTrue}
 use Rattle.reader.specs.Trees.{Tree, child, atom, ¬ᵗ_}
-use Rattle.reader.specs.Laws.{child-below}
+use Rattle.reader.specs.TreeLaws.{child-below}
 use Rattle.reader.specs.Variables.{binders, indicesBelow}
 use Rattle.reader_closedness.specs.Reaches.{variable-index, own-none, own-variable}
 use Rattle.reader_closedness.specs.Reach.{larger, variable, crossed, ownReach, reach, indices-reach}

@@ -1,24 +1,25 @@
 -- Letters that stand for one thing are equal, replacement, closedness, and the ways out of the code that tests them.
-use Prim.Native.Nat.{ℕ, zero, suc, _+_, _-_, _<_, _≤_}
+use Prim.Native.Nat.{ℕ, zero, suc, _-_, _<_, _≤_}
 use mathlib.Core.Path.{_≡_, refl, sym, ap, _∙_}
-use mathlib.Core.List.{List, [], _∷_, map}
-use mathlib.Core.Bool.{Bool, true, false, not}
+use mathlib.Core.List.{List, [], _∷_}
+use mathlib.Core.Bool.{Bool, true, false}
 use lib.Dec.{eqb, ltb}
-use lib.ListN.{getD, drop, length}
+use lib.ListN.{drop}
 use native.Mathlib.Omega.{arith}
-use borrow.Author.Tests.{eq-eqb, ne-eqb, lt-ltb, le-ltb, ltb-true, ltb-false}
+use borrow.Author.Tests.{ltb-true, ltb-false}
 use Rattle.reader.specs.Words.{Reader}
-use Rattle.reader.specs.Tests.{both, every, ifEq, ifLt, eq-yes, eq-no, lt-yes, lt-no}
-use Rattle.reader.specs.Trees.{Tree, leaf, lower, same, firstOf, secondOf, ¬ᵗ_}
-use Rattle.reader.specs.Chains.{items, parts}
-use Rattle.reader.specs.Laws.{items-zero, items-step}
+use Rattle.reader.specs.Tests.{both, every, ifEq, ifLt}
+use Rattle.reader.specs.TestLaws.{eq-yes, eq-no, lt-yes, lt-no}
+use Rattle.reader.specs.Trees.{Tree, lower, same}
+use Rattle.reader.specs.Chains.{parts}
+use Rattle.reader.specs.TreeLaws.{items-zero, items-step}
 use Rattle.reader.specs.Variables.{replaced, indicesBelow}
 use Rattle.reader_chains.specs.Shapes.{lower-zero}
 use Rattle.derivation_rules.specs.Erase.{bareTree, bareParts}
-use Rattle.derivation_rules.specs.Rules.{Sequent, Row, row, areClosed, noRow}
-use Rattle.derivation_trees.specs.Keys.{decoded, Normal, Stands, key-same}
-use Rattle.derivation_trees.specs.Table.{Table, KeyOf}
-use Rattle.derivation_tables.specs.RowLaws.{NoRule, row-none, by-rule}
+use Rattle.derivation_rules.specs.Rules.{State, Row, row, indicesClosed}
+use Rattle.derivation_trees.specs.Keys.{decoded, key-same}
+use Rattle.derivation_trees.specs.Table.{KeyOf}
+use Rattle.derivation_tables.specs.RowLaws.{row-none, by-rule}
 use Rattle.derivation_frames.specs.Frames.{chainTrees}
 use Rattle.derivation_tables.specs.Tables.{column, sourceTree, stepTree, formTree}
 use Rattle.derivation_forms.specs.Forms.{Formed, lower-most}
@@ -53,24 +54,24 @@ partsFit k ps goal = ifEq k 79 (equalityFits ps goal) (both (every isClosed ps) 
 unfoldable pub nodeFits : Reader → Tree → ℕ → Bool
 nodeFits rd goal n = ifLt (rd n 0) 64 false (ifLt 80 (rd n 0) false (partsFit (rd n 0) (bareParts rd n) goal))
 
-closed-every : (ps : List Tree) → every isClosed ps ≡ areClosed ps
+closed-every : (ps : List Tree) → every isClosed ps ≡ indicesClosed ps
 unfolding every isClosed
 closed-every [] = refl
 closed-every (p ∷ ps) = ap (λ (b : Bool). elim (indicesBelow 0 p) as (λ x. Bool) [ true ↦ b | false ↦ false ]) (closed-every ps)
 
-with-true : (ps : List Tree) → areClosed ps ≡ both (every isClosed ps) true
+with-true : (ps : List Tree) → indicesClosed ps ≡ both (every isClosed ps) true
 unfolding both
-with-true ps = rw (closed-every ps) (go (areClosed ps))
+with-true ps = rw (closed-every ps) (go (indicesClosed ps))
   where
     go : (b : Bool) → b ≡ both b true
     go true = refl
     go false = refl
 
-with-more : (ps : List Tree) (b : Bool) → both (areClosed ps) b ≡ both (every isClosed ps) b
+with-more : (ps : List Tree) (b : Bool) → both (indicesClosed ps) b ≡ both (every isClosed ps) b
 with-more ps b = rw (closed-every ps) refl
 
 -- the rows say the same
-fits-rule : (ps : List Tree) (st : Sequent) (k : ℕ) → 64 ≤ k → k ≤ 80 → row k ps st .fits ≡ partsFit k ps (st .goal)
+fits-rule : (ps : List Tree) (st : State) (k : ℕ) → 64 ≤ k → k ≤ 80 → row k ps st .fits ≡ partsFit k ps (st .goal)
 unfolding row ifEq ifLt column partsFit lettersFit equalityFits equalForms replacedForms formTree stepTree sourceTree
 fits-rule ps st =
     by-rule (λ k. 64 ≤ k → k ≤ 80 → row k ps st .fits ≡ partsFit k ps (st .goal))
@@ -86,7 +87,7 @@ fits-rule ps st =
     (λ a b. with-more ps _)
     (λ k other a b. absurd (other k a b refl))
 
-pub node-fits : (rd : Reader) (n : ℕ) (st : Sequent) → nodeFits rd (st .goal) n ≡ row (rd n 0) (bareParts rd n) st .fits
+pub node-fits : (rd : Reader) (n : ℕ) (st : State) → nodeFits rd (st .goal) n ≡ row (rd n 0) (bareParts rd n) st .fits
 unfolding nodeFits
 node-fits rd n st = go (rd n 0) (bareParts rd n) (ltb (rd n 0) 64) refl (ltb 80 (rd n 0)) refl
   where

@@ -1,3 +1,2 @@
-// Letters, replacement and closedness: refusal 15; the constant of R7: refusal 16.
+// Letters, replacement and closedness: refusal 15.
 pub mod fits;
-pub mod fresh;

@@ -1,24 +1,25 @@
 -- The form of the parts of a node and of its goal, and the ways out of the code that tests them.
 use Prim.Native.Nat.{ℕ, zero, suc, _-_, _/_, _%_, _<_, _≤_}
-use mathlib.Core.Path.{_≡_, refl, sym, ap, _∙_}
-use mathlib.Core.List.{List, [], _∷_, map}
+use mathlib.Core.Path.{_≡_, refl, sym, ap}
+use mathlib.Core.List.{List, [], _∷_}
 use mathlib.Core.Bool.{Bool, true, false, not}
 use lib.Dec.{eqb, eqb·suc-zero}
 use lib.ListN.{length, replicate}
 use native.Mathlib.Omega.{arith}
 use borrow.Author.Tests.{eq-eqb, ne-eqb, eqb-true, eqb-false, not-true, not-false}
 use Rattle.reader.specs.Words.{Reader}
-use Rattle.reader.specs.Tests.{both, every, ifEq, ifLt, eq-no}
-use Rattle.reader.specs.Down.{Local, down, down-zero, down-step}
+use Rattle.reader.specs.Tests.{both, every, ifEq, ifLt}
+use Rattle.reader.specs.TestLaws.{eq-no}
+use Rattle.reader.specs.DownLaws.{Local, down-zero, down-step}
 use Rattle.reader.specs.Trees.{Tree, lower}
 use Rattle.reader.specs.Chains.{items, parts}
-use Rattle.reader.specs.Laws.{lower-below, items-zero, items-step}
-use Rattle.reader.specs.Shapes.{Shape, ofClass, formula, hasShape, haveShapes}
+use Rattle.reader.specs.TreeLaws.{lower-below, items-zero, items-step}
+use Rattle.reader.specs.Shapes.{Shape, formula, hasShape, haveShapes}
 use Rattle.derivation_rules.specs.Erase.{bareTree, bareParts}
-use Rattle.derivation_rules.specs.Rules.{Sequent, Row, row}
+use Rattle.derivation_rules.specs.Rules.{State, row}
 use Rattle.derivation_rules.specs.Check.{goalFormed}
-use Rattle.derivation_trees.specs.Keys.{decoded, Normal, Stands}
-use Rattle.derivation_trees.specs.Table.{Table, KeyOf}
+use Rattle.derivation_trees.specs.Keys.{decoded, Normal}
+use Rattle.derivation_trees.specs.Table.{KeyOf}
 use Rattle.derivation_trees.specs.Shapes.{shapeOf}
 use Rattle.derivation_frames.specs.Frames.{chainTrees}
 use Rattle.derivation_forms.specs.Forms.{lower-most}
@@ -41,12 +42,12 @@ unfolding haveShapes every isFormula shapeOf ifLt both
 formulas-are [] = refl
 formulas-are (p ∷ ps) = ap (both (hasShape formula p)) (formulas-are ps)
 
-shapes-65 : (ps : List Tree) (st : Sequent) → row 65 ps st .shapes ≡ replicate (length ps) formula
+shapes-65 : (ps : List Tree) (st : State) → row 65 ps st .shapes ≡ replicate (length ps) formula
 unfolding row ifEq
 shapes-65 ps st = refl
 
 -- the rows say the same
-pub parts-formed : (rd : Reader) (n : ℕ) (st : Sequent) → partsFormed rd n ≡ haveShapes (row (rd n 0) (bareParts rd n) st .shapes) (bareParts rd n)
+pub parts-formed : (rd : Reader) (n : ℕ) (st : State) → partsFormed rd n ≡ haveShapes (row (rd n 0) (bareParts rd n) st .shapes) (bareParts rd n)
 unfolding partsFormed ifEq
 parts-formed rd n st = go (rd n 0) (bareParts rd n)
   where
@@ -57,7 +58,7 @@ parts-formed rd n st = go (rd n 0) (bareParts rd n)
         by true e = rw (eqb-true k 65 e, shapes-65 ps st) (sym (formulas-are ps))
         by false e = rw (shapes-are ps st k (eqb-false k 65 e)) refl
 
-pub goal-shaped : (k : ℕ) (ps : List Tree) (st : Sequent) (goal : Tree) → goalShaped k goal ≡ goalFormed (row k ps st .goalShapes) goal
+pub goal-shaped : (k : ℕ) (ps : List Tree) (st : State) (goal : Tree) → goalShaped k goal ≡ goalFormed (row k ps st .goalShapes) goal
 unfolding goalShaped goalFormed oneOf ifEq every
 goal-shaped k ps st goal = rw (goal-shapes-are ps st k) (go (column k 1))
   where

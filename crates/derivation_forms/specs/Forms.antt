@@ -1,22 +1,19 @@
 -- The keys of what a form names, and the ways out of the code that makes them.
-use Prim.Native.Nat.{ℕ, zero, suc, _+_, _*_, _-_, _/_, _%_, _<_, _≤_}
+use Prim.Native.Nat.{ℕ, zero, suc, _+_, _-_, _/_, _%_, _<_, _≤_}
 use mathlib.Core.Path.{_≡_, refl, sym, ap, _∙_}
 use mathlib.Core.List.{List, [], _∷_, map}
-use mathlib.Core.Bool.{Bool, true, false}
-use lib.Dec.{eqb}
 use lib.ListN.{getD, length}
 use native.Mathlib.Omega.{arith}
 use borrow.Author.Tests.{eq-eqb, ne-eqb, lt-ltb, le-ltb}
 use Rattle.reader.specs.Words.{Reader}
 use Rattle.reader.specs.Tests.{ifEq, ifLt}
-use Rattle.reader.specs.Down.{iter, down}
-use Rattle.reader.specs.Trees.{Tree, leaf, lower, tree, firstOf, secondOf, ¬ᵗ_}
+use Rattle.reader.specs.Trees.{Tree, leaf, lower, firstOf, secondOf, ¬ᵗ_}
 use Rattle.reader.specs.Chains.{items, parts}
-use Rattle.reader.specs.Laws.{lower-below, tree-zero, items-zero, items-step}
+use Rattle.reader.specs.TreeLaws.{lower-below, tree-zero}
 use Rattle.reader_chains.specs.Shapes.{lower-zero}
 use Rattle.reader_chains.specs.Chains.{linkAt, itemAt, link-none, link-first, link-next, item-items}
 use Rattle.derivation_rules.specs.Erase.{⌊_⌋, bareTree, bareParts}
-use Rattle.derivation_rules.specs.Rules.{at}
+use Rattle.reader.specs.Members.{part}
 use Rattle.derivation_trees.specs.Keys.{negationsOf, decoded, Normal, Stands}
 use Rattle.derivation_trees.specs.Table.{Table, KeyOf}
 use Rattle.derivation_trees.specs.Parts.{Part}
@@ -49,7 +46,7 @@ bare-zero : (rd : Reader) → leaf ≡ bareTree rd 0
 unfolding bareTree ⌊_⌋
 bare-zero rd = rw (tree-zero rd) refl
 
-pub part-tree : (rd : Reader) (n j : ℕ) → at (bareParts rd n) j ≡ bareTree rd (partRecord rd n j)
+pub part-tree : (rd : Reader) (n j : ℕ) → part (bareParts rd n) j ≡ bareTree rd (partRecord rd n j)
 unfolding bareParts parts partRecord
 part-tree rd n j = past (bareTree rd) (items rd (lower rd n 1)) j 0 leaf (bare-zero rd) ∙ ap (bareTree rd) (sym (item-items rd j (lower rd n 1)))
 

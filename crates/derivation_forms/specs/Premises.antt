@@ -1,19 +1,19 @@
 -- The premises of a node, and the ways out of the code that counts them.
-use Prim.Native.Nat.{ℕ, zero, suc, _-_, _<_}
-use mathlib.Core.Path.{_≡_, refl, sym}
-use mathlib.Core.List.{List, [], _∷_}
+use Prim.Native.Nat.{ℕ, zero, suc, _-_}
+use mathlib.Core.Path.{_≡_, refl}
+use mathlib.Core.List.{List, _∷_}
 use mathlib.Core.Bool.{Bool, true, false}
 use lib.Dec.{eqb, eqb·suc-zero, eqb·suc-suc}
 use lib.ListN.{length}
 use native.Mathlib.Omega.{arith}
-use borrow.Author.Tests.{eq-eqb, ne-eqb}
+use borrow.Author.Tests.{ne-eqb}
 use Rattle.reader.specs.Words.{Reader}
 use Rattle.reader.specs.Tests.{both, every}
 use Rattle.reader.specs.Kinds.{isRule}
 use Rattle.reader.specs.Trees.{lower}
 use Rattle.reader.specs.Chains.{items, premises}
-use Rattle.reader.specs.Laws.{items-zero, items-step}
-use Rattle.derivation_rules.specs.Check.{premisesFit}
+use Rattle.reader.specs.TreeLaws.{items-zero, items-step}
+use Rattle.reader.specs.Members.{premisesFit}
 
 -- the items of chain c are n rule nodes
 unfoldable pub areNodes : Reader → ℕ → ℕ → Bool
@@ -54,6 +54,6 @@ module _ (rd : Reader) (c n : ℕ) where
     nodes-more r e = rw (items-step rd c (omega arith), one-more _ _ _ n wanted, ← ei, ← er, ← ek) e
 
 -- the premises of a node
-pub premises-of : (rd : Reader) (n c count : ℕ) (r : Bool) → c ≡ lower rd n 2 → r ≡ areNodes rd c count → r ≡ premisesFit rd n count
+pub premises-of : (rd : Reader) (n c count : ℕ) (r : Bool) → c ≡ lower rd n 2 → r ≡ areNodes rd c count → r ≡ premisesFit 2 rd n count
 unfolding premisesFit premises areNodes
 premises-of rd n c count r ec e = rw (← ec) e

@@ -4,7 +4,7 @@ use reader::trees;
 use reader::words;
 ghost use mathlib.Core.Path.{_≡_};
 ghost use Rattle.reader.specs.Words.{word};
-ghost use Rattle.derivation_rules.specs.Check.{premisesFit};
+ghost use Rattle.reader.specs.Members.{premisesFit};
 ghost use Rattle.derivation_forms.specs.Premises.{areNodes};
 
 // Are the items of chain c n rule nodes?
@@ -27,7 +27,7 @@ fn are_nodes(obligation: &[u8], second: &[u8], m: usize, c: usize, n: usize) -> 
 
 // Has node n `count` premises, each a rule node?
 pub fn premises_fit(obligation: &[u8], second: &[u8], m: usize, n: usize, count: usize) -> bool
-    ensures { λ r. ⌜ r ≡ premisesFit (word (now (obligation .entry)) (now (second .entry)) m) n count ⌝ }
+    ensures { λ r. ⌜ r ≡ premisesFit 2 (word (now (obligation .entry)) (now (second .entry)) m) n count ⌝ }
 {
     let c = trees::lower_at(obligation, second, m, n, 2);
     are_nodes(obligation, second, m, c, count)

@@ -4,19 +4,14 @@
 use Prim.Native.Nat.{ℕ, zero, suc, _+_, _*_, _-_, _<_, _≤_}
 use mathlib.Core.Path.{_≡_, refl, sym, ap, _∙_}
 use mathlib.Core.List.{List, [], _∷_, _++_, map}
-use mathlib.Core.Bool.{Bool, true, false}
-use lib.Dec.{eqb, ltb}
 use lib.ListN.{getD, length, set}
-use lib.Seq.{getD-set-same, getD-set-other}
 use native.Mathlib.Omega.{arith}
-use native.Mathlib.Numerals.{add-one}
-use borrow.Author.Tests.{eq-eqb, ne-eqb, ltb-true, ltb-false}
 use Rattle.reader.specs.Words.{Reader}
 use Rattle.reader.specs.Tests.{ifEq}
 use Rattle.reader.specs.Trees.{Tree}
 use Rattle.reader.specs.Chains.{items}
 use Rattle.derivation_rules.specs.Erase.{bareTree}
-use Rattle.derivation_rules.specs.Rules.{Sequent, sequent}
+use Rattle.derivation_rules.specs.Rules.{State, stateAt}
 use Rattle.derivation_trees.specs.Keys.{negationsOf, decoded, Normal}
 
 -- word w of the frame of depth d
@@ -54,8 +49,8 @@ membersAt rd frames d =
     chainTrees rd (entryAt frames (startAt frames d)) ++ addedFrom rd frames (d - startAt frames d) (suc (startAt frames d))
 
 -- what the node at depth d is to derive
-unfoldable pub stateOf : Reader → List ℕ → ℕ → Sequent
-stateOf rd frames d = sequent (membersAt rd frames d) (decoded rd (goalAt frames d)) d
+unfoldable pub stateOf : Reader → List ℕ → ℕ → State
+stateOf rd frames d = stateAt (membersAt rd frames d) (decoded rd (goalAt frames d)) d
 
 -- the frames to depth d are as the code makes them, for records below size
 pub record Framed (rd : Reader) (size : ℕ) (frames : List ℕ) (d : ℕ) : Type 0 where

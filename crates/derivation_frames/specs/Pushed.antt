@@ -1,7 +1,7 @@
 -- The frame of a premise: what it stands for, and that it is as the code makes them.
 use Prim.Native.Nat.{ℕ, zero, suc, _+_, _*_, _-_, _<_, _≤_}
 use mathlib.Core.Path.{_≡_, refl, sym, ap, _∙_}
-use mathlib.Core.List.{List, [], _∷_, _++_, append-assoc, append-nil}
+use mathlib.Core.List.{List, _++_, append-assoc, append-nil}
 use mathlib.Core.Bool.{Bool, true, false}
 use lib.Dec.{ltb}
 use lib.ListN.{getD, length, set, length-set, length-append}
@@ -9,8 +9,7 @@ use lib.Seq.{getD-set-same, getD-set-other}
 use native.Mathlib.Omega.{arith}
 use borrow.Author.Tests.{ltb-true, ltb-false}
 use Rattle.reader.specs.Words.{Reader}
-use Rattle.reader.specs.Trees.{Tree}
-use Rattle.derivation_trees.specs.Keys.{negationsOf, decoded, Normal}
+use Rattle.derivation_trees.specs.Keys.{negationsOf, Normal}
 use Rattle.derivation_frames.specs.Frames.{frameWord, startAt, goalAt, entryAt, countAt, addedBy, addedFrom, chainTrees, membersAt, Framed, Kept, Written}
 
 -- one frame more adds its member at the end

@@ -10,21 +10,22 @@ use Rattle.reader.specs.Tests.{both, between, every, ifEq, ifLt}
 use Rattle.reader.specs.Kinds.{isRule}
 use Rattle.reader.specs.Trees.{Tree, kindOf, atomOf, firstOf, secondOf, ⊥ᵗ, _∧ᵗ_, _⇒ᵗ_, ¬ᵗ_, _=ᵗ_}
 use Rattle.reader.specs.Chains.{premises}
-use Rattle.reader.specs.Variables.{isBound, indicesBelow}
+use Rattle.reader.specs.Variables.{indexBelow, indicesBelow}
 use Rattle.reader.specs.Shapes.{hasShape, haveShapes, term, formula, equation}
-use Rattle.reader.specs.Laws.{same-self}
-use Rattle.reader.specs.Meaning.{Each, Passes, passes}
+use Rattle.reader.specs.Notions.{_∈_, Every, _⊆_, IsFormula, _⟨_⟩, NoIndex, Fresh}
+use Rattle.reader.specs.TreeLaws.{same-self}
+use Rattle.reader.specs.WalkLaws.{Each, Passes, passes}
 use Rattle.reader_laws.specs.Scan.{both-join}
-use Rattle.derivation_rules.specs.Erase.{bareParts}
-use Rattle.derivation_rules.specs.Rules.{Sequent, sequent, Row, row}
+use Rattle.reader_laws.specs.NotionLaws.{every-0, every-more, every-1, every-2, indices-in, indices-out}
+use Rattle.derivation_rules.specs.Erase.{bareParts, constantᵇ, ∀ᵇ}
+use Rattle.derivation_rules.specs.Rules.{State, stateAt, Row, row}
 use Rattle.derivation_rules.specs.Check.{goalFormed, rowOf, nodeFault, premiseState}
-use Rattle.derivation_meaning.specs.Notions.{_∈_, here, there, Closed, Fresh, constantᵗ, allᵗ, _⟨_⟩}
-use Rattle.derivation_meaning.specs.Derives.{Node, Derives}
-use Rattle.derivation_meaning.specs.TestLaws.{none-in, only-in, below-free, free-below}
-use Rattle.derivation_meaning.specs.RowLaws.{Passed, faultless, has-class, shapes-join, all-shapes, in-closed, Premises, none-premises, one-premise, two-premises, premise-each}
+use Rattle.derivation_meaning.specs.Derives.{DerivationNode, Derives}
+use Rattle.derivation_meaning.specs.RowLaws.{Passed, faultless, has-class, shapes-join, all-shapes, closed-out}
+use Rattle.derivation_meaning.specs.RowLaws.{Premises, none-premises, one-premise, two-premises, premise-each}
 
 -- what any derivation says of its node and its sequent
-node-rule : (rd : Reader) (n k : ℕ) (ps : List Tree) (xs : List ℕ) (Γ : List Tree) (d : ℕ) → isRule 2 k ≡ true → Node rd n k ps xs Γ d →
+node-rule : (rd : Reader) (n k : ℕ) (ps : List Tree) (xs : List ℕ) (Γ : List Tree) (d : ℕ) → isRule 2 k ≡ true → DerivationNode rd n k ps xs Γ d →
     (isRule 2 (rd n 0) ≡ true) × (length Γ ≤ 2048)
 node-rule rd n k ps xs Γ d h node = (ap (isRule 2) (node .kind) ∙ h, node .members)
 
@@ -50,28 +51,28 @@ derives-rule (Derives.R10 node) = node-rule _ _ 80 _ _ _ _ refl node
 
 -- the premises of a row: their states, beside the kinds of their nodes and the numbers of their members
 module _ (rd : Reader) where
-  -- each is a rule node, and has room
-  record Ready (ss : List Sequent) (xs : List ℕ) : Type 0 where
+  -- each is a rule node, and the members of its state are within the limit
+  record Ready (ss : List State) (xs : List ℕ) : Type 0 where
     number : length xs ≡ length ss
     rules : every (λ x. isRule 2 (rd x 0)) xs ≡ true
-    room : (s : Sequent) → s ∈ ss → length (s .members) ≤ 2048
+    limit : Every (λ s. length (s .members) ≤ 2048) ss
 
   ready-0 : Ready [] []
   unfolding every
-  ready-0 = record { number = refl; rules = refl; room = λ s m. none-in m }
+  ready-0 = record { number = refl; rules = refl; limit = every-0 (λ s. length (s .members) ≤ 2048) }
 
-  ready-more : (s : Sequent) (ss : List Sequent) (x : ℕ) (xs : List ℕ) → (isRule 2 (rd x 0) ≡ true) × (length (s .members) ≤ 2048) → Ready ss xs →
+  ready-more : (s : State) (ss : List State) (x : ℕ) (xs : List ℕ) → (isRule 2 (rd x 0) ≡ true) × (length (s .members) ≤ 2048) → Ready ss xs →
       Ready (s ∷ ss) (x ∷ xs)
   unfolding every
-  ready-more s ss x xs p r = record { number = ap suc (r .number); rules = simp (every, p .0) (r .rules); room = go }
-    where
-      go : (t : Sequent) → t ∈ (s ∷ ss) → length (t .members) ≤ 2048
-      go t (here e) = subst (λ (t : Sequent). length (t .members) ≤ 2048) (sym e) (p .1)
-      go t (there m) = r .room t m
+  ready-more s ss x xs p r = record {
+    number = ap suc (r .number);
+    rules = simp (every, p .0) (r .rules);
+    limit = every-more (λ (s : State). length (s .members) ≤ 2048) s ss (p .1) (r .limit);
+  }
 
 module _ (rd : Reader) (head : rd 0 0 ≡ 1) where
   -- the walk from node n accepts the state, and counts k nodes
-  abbrev pub Goes : Sequent → ℕ → ℕ → Type 0
+  abbrev pub Goes : State → ℕ → ℕ → Type 0
   Goes = Passes rd (nodeFault rd) (premiseState rd)
 
   -- record 0 is the header
@@ -79,25 +80,25 @@ module _ (rd : Reader) (head : rd 0 0 ≡ 1) where
   given zero k e h = absurd (omega (arith, head))
   given (suc n) k e h = omega arith
 
-  module _ (n k c d : ℕ) (ps : List Tree) (xs : List ℕ) (Γ : List Tree) (G : Tree) (node : Node rd n k ps xs Γ d) where
+  module _ (n k c d : ℕ) (ps : List Tree) (xs : List ℕ) (Γ : List Tree) (G : Tree) (node : DerivationNode rd n k ps xs Γ d) where
     abbrev here-row : Row
-    here-row = row k ps (sequent Γ G d)
+    here-row = row k ps (stateAt Γ G d)
 
-    row-is : rowOf rd (sequent Γ G d) n ≡ here-row
+    row-is : rowOf rd (stateAt Γ G d) n ≡ here-row
     unfolding rowOf
     row-is =
-        ap (λ (k : ℕ). row k (bareParts rd n) (sequent Γ G d)) (node .kind) ∙ ap (λ (ps : List Tree). row k ps (sequent Γ G d)) (node .partsOf)
+        ap (λ (k : ℕ). row k (bareParts rd n) (stateAt Γ G d)) (node .kind) ∙ ap (λ (ps : List Tree). row k ps (stateAt Γ G d)) (node .partsOf)
 
     -- a node whose tests pass and whose premises are accepted
     enter : 1 < k → haveShapes (here-row .shapes) ps ≡ true → goalFormed (here-row .goalShapes) G ≡ true →
-        ((t : Tree) → t ∈ here-row .needs → t ∈ Γ) → (here-row .onlyGoal ≡ true → (t : Tree) → t ∈ Γ → t ≡ G) → here-row .fits ≡ true →
-        ((e : ℕ) → e ∈ here-row .fresh → Fresh e Γ G) → Ready rd (here-row .premises) xs → Premises Goes (here-row .premises) xs c →
-        Goes (sequent Γ G d) n (suc c)
+        here-row .needs ⊆ Γ → (here-row .onlyGoal ≡ true → Every (λ t. t ≡ G) Γ) → here-row .fits ≡ true →
+        Every (λ e. Fresh e (G ∷ Γ)) (here-row .fresh) → Ready rd (here-row .premises) xs → Premises Goes (here-row .premises) xs c →
+        Goes (stateAt Γ G d) n (suc c)
     unfolding nodeFault premiseState
     enter big shapes goal needs others fits fresh ready walks =
-        passes rd (nodeFault rd) (premiseState rd) (sequent Γ G d) n c (given n k (node .kind) big) fault each
+        passes rd (nodeFault rd) (premiseState rd) (stateAt Γ G d) n c (given n k (node .kind) big) fault each
       where
-        passed : Passed rd n (sequent Γ G d) here-row
+        passed : Passed rd n (stateAt Γ G d) here-row
         passed = record {
           shapes = ap (haveShapes (here-row .shapes)) (node .partsOf) ∙ shapes;
           goalShapes = goal;
@@ -107,60 +108,65 @@ module _ (rd : Reader) (head : rd 0 0 ≡ 1) where
           others = others;
           fits = fits;
           fresh = fresh;
-          room = ready .room;
+          limit = ready .limit;
           depth = node .depth;
         }
 
-        fault : nodeFault rd (sequent Γ G d) n ≡ 0
-        fault = faultless rd n (sequent Γ G d) (rowOf rd (sequent Γ G d) n) (subst (Passed rd n (sequent Γ G d)) (sym row-is) passed)
+        fault : nodeFault rd (stateAt Γ G d) n ≡ 0
+        fault = faultless rd n (stateAt Γ G d) (rowOf rd (stateAt Γ G d) n) (subst (Passed rd n (stateAt Γ G d)) (sym row-is) passed)
 
-        state : (j : ℕ) → premiseState rd (sequent Γ G d) n (0 + j) ≡ getD (here-row .premises) j (sequent Γ G d)
+        state : (j : ℕ) → premiseState rd (stateAt Γ G d) n (0 + j) ≡ getD (here-row .premises) j (stateAt Γ G d)
         state j =
             let z : 0 + j ≡ j = omega arith in
-            ap (premiseState rd (sequent Γ G d) n) z ∙ ap (λ (r : Row). getD (r .premises) j (sequent Γ G d)) row-is
+            ap (premiseState rd (stateAt Γ G d) n) z ∙ ap (λ (r : Row). getD (r .premises) j (stateAt Γ G d)) row-is
 
-        each : Each Goes (premiseState rd) (sequent Γ G d) n 0 (premises rd n) c
-        each = rw (node .premisesOf) (premise-each Goes (premiseState rd) (sequent Γ G d) n (here-row .premises) xs 0 c state walks)
+        each : Each Goes (premiseState rd) (stateAt Γ G d) n 0 (premises rd n) c
+        each = rw (node .premisesOf) (premise-each Goes (premiseState rd) (stateAt Γ G d) n (here-row .premises) xs 0 c state walks)
 
-  -- columns with nothing in them
-  no-needs : (Γ : List Tree) (t : Tree) → t ∈ [] → t ∈ Γ
-  no-needs Γ t m = none-in m
+  -- rows that need no member, let other members than the goal be there, show no fresh constant
+  no-needs : (Γ : List Tree) → [] ⊆ Γ
+  no-needs Γ = every-0 (λ t. t ∈ Γ)
 
   no-others : {A : Type 0} → false ≡ true → A
   no-others e = absurd (false≢true e)
 
-  no-fresh : (Γ : List Tree) (G : Tree) (c : ℕ) → c ∈ [] → Fresh c Γ G
-  no-fresh Γ G c m = none-in m
+  no-fresh : (Γ : List Tree) (G : Tree) → Every (λ c. Fresh c (G ∷ Γ)) []
+  no-fresh Γ G = every-0 (λ c. Fresh c (G ∷ Γ))
+
+  -- the one member that is needed
+  one-need : (Γ : List Tree) (t : Tree) → t ∈ Γ → (t ∷ []) ⊆ Γ
+  one-need Γ t m = every-1 (λ t. t ∈ Γ) t m
+
+  -- one part, a formula
+  one-formula : (t : Tree) → IsFormula t → haveShapes (formula ∷ []) (t ∷ []) ≡ true
+  unfolding haveShapes
+  one-formula t f = shapes-join formula t [] [] (has-class 5 t f) refl
 
   -- closed parts
-  closed-1 : (t : Tree) → Closed t → every (indicesBelow 0) (t ∷ []) ≡ true
-  closed-1 t h = in-closed (t ∷ []) (λ u m. subst Closed (sym (only-in m)) h)
+  closed-1 : (t : Tree) → NoIndex t → every (indicesBelow 0) (t ∷ []) ≡ true
+  closed-1 t h = closed-out (t ∷ []) (every-1 NoIndex t h)
 
-  closed-2 : (t u : Tree) → Closed t → Closed u → every (indicesBelow 0) (t ∷ u ∷ []) ≡ true
-  closed-2 t u h g = in-closed (t ∷ u ∷ []) go
-    where
-      go : (v : Tree) → v ∈ (t ∷ u ∷ []) → Closed v
-      go v (here e) = subst Closed (sym e) h
-      go v (there m) = subst Closed (sym (only-in m)) g
+  closed-2 : (t u : Tree) → NoIndex t → NoIndex u → every (indicesBelow 0) (t ∷ u ∷ []) ≡ true
+  closed-2 t u h g = closed-out (t ∷ u ∷ []) (every-2 NoIndex t u h g)
 
-  -- a constant has no variable
-  constant-closed : (c : ℕ) → Closed (constantᵗ c)
-  unfolding indicesBelow isBound
-  constant-closed c i f = let l : i < 0 = below-free 0 refl f in absurd (omega arith)
+  -- a constant has no index
+  constant-closed : (c : ℕ) → NoIndex (constantᵇ c)
+  unfolding indicesBelow indexBelow
+  constant-closed c = indices-in 0 (constantᵇ c) refl
 
-  pub derives-goes : {Γ : List Tree} {G : Tree} {d n k : ℕ} → Derives rd Γ G d n k → Goes (sequent Γ G d) n k
+  pub derives-goes : {Γ : List Tree} {G : Tree} {d n k : ℕ} → Derives rd Γ G d n k → Goes (stateAt Γ G d) n k
   unfolding row ifEq haveShapes hasShape goalFormed every kindOf firstOf secondOf atomOf both
   derives-goes (Derives.BR1 {Γ = Γ} {P = P} {d = d} {n = n} node m all) =
-      enter n 64 0 d [] [] Γ P node (omega arith) refl refl (λ t i. subst (λ (t : Tree). t ∈ Γ) (sym (only-in i)) m) (λ e. all) refl (no-fresh Γ P)
+      enter n 64 0 d [] [] Γ P node (omega arith) refl refl (one-need Γ _ m) (λ e. all) refl (no-fresh Γ P)
       (ready-0 rd) (none-premises Goes)
   derives-goes (Derives.BR2 {Γ = Γ} {Δ = Δ} {P = P} {d = d} {n = n} {x = x} {i = i} node f c s p) =
-      enter n 65 i d Δ (x ∷ []) Γ P node (omega arith) (all-shapes formula Δ (λ t m. has-class 5 t (f t m))) refl s no-others (in-closed Δ c) (no-fresh Γ P)
+      enter n 65 i d Δ (x ∷ []) Γ P node (omega arith) (all-shapes formula Δ (λ t m. has-class 5 t (f t m))) refl s no-others (closed-out Δ c) (no-fresh Γ P)
       (ready-more rd _ [] x [] (derives-rule p) (ready-0 rd)) (one-premise Goes _ x i (derives-goes p))
   derives-goes (Derives.BR3 {Γ = Γ} {P = P} {d = d} {n = n} node m) =
-      enter n 66 0 d [] [] Γ P node (omega arith) refl refl (λ t i. subst (λ (t : Tree). t ∈ Γ) (sym (only-in i)) m) no-others refl (no-fresh Γ P)
+      enter n 66 0 d [] [] Γ P node (omega arith) refl refl (one-need Γ _ m) no-others refl (no-fresh Γ P)
       (ready-0 rd) (none-premises Goes)
   derives-goes (Derives.BR4 {Γ = Γ} {P = P} {Q = Q} {d = d} {n = n} {x = x} {y = y} {i = i} {j = j} node f c p q) =
-      enter n 67 (i + j) d (P ∷ []) (x ∷ y ∷ []) Γ Q node (omega arith) (shapes-join formula P [] [] (has-class 5 P f) refl) refl (no-needs Γ) no-others (closed-1 P c) (no-fresh Γ Q)
+      enter n 67 (i + j) d (P ∷ []) (x ∷ y ∷ []) Γ Q node (omega arith) (one-formula P f) refl (no-needs Γ) no-others (closed-1 P c) (no-fresh Γ Q)
       (ready-more rd _ _ x _ (derives-rule p) (ready-more rd _ [] y [] (derives-rule q) (ready-0 rd)))
       (two-premises Goes _ _ x y i j (derives-goes p) (derives-goes q))
   derives-goes (Derives.BR6 {Γ = Γ} {d = d} {n = n} node) =
@@ -187,32 +193,33 @@ module _ (rd : Reader) (head : rd 0 0 ≡ 1) where
       enter n 73 i d [] (x ∷ []) Γ (P ⇒ᵗ Q) node (omega arith) refl refl (no-needs Γ) no-others refl (no-fresh Γ (P ⇒ᵗ Q))
       (ready-more rd _ [] x [] (derives-rule p) (ready-0 rd)) (one-premise Goes _ x i (derives-goes p))
   derives-goes (Derives.R4 {Γ = Γ} {P = P} {Q = Q} {d = d} {n = n} {x = x} {i = i} node c m p) =
-      enter n 74 i d (P ⇒ᵗ Q ∷ []) (x ∷ []) Γ Q node (omega arith) refl refl (λ t i. subst (λ (t : Tree). t ∈ Γ) (sym (only-in i)) m) no-others
+      enter n 74 i d (P ⇒ᵗ Q ∷ []) (x ∷ []) Γ Q node (omega arith) refl refl (one-need Γ _ m) no-others
       (both-join _ _ (closed-1 (P ⇒ᵗ Q) c) (same-self Q)) (no-fresh Γ Q)
       (ready-more rd _ [] x [] (derives-rule p) (ready-0 rd)) (one-premise Goes _ x i (derives-goes p))
   derives-goes (Derives.R5 {Γ = Γ} {P = P} {Q = Q} {d = d} {n = n} {x = x} {y = y} {i = i} {j = j} node f c p q) =
-      enter n 75 (i + j) d (P ∷ []) (x ∷ y ∷ []) Γ Q node (omega arith) (shapes-join formula P [] [] (has-class 5 P f) refl) refl (no-needs Γ) no-others (closed-1 P c) (no-fresh Γ Q)
+      enter n 75 (i + j) d (P ∷ []) (x ∷ y ∷ []) Γ Q node (omega arith) (one-formula P f) refl (no-needs Γ) no-others (closed-1 P c) (no-fresh Γ Q)
       (ready-more rd _ _ x _ (derives-rule p) (ready-more rd _ [] y [] (derives-rule q) (ready-0 rd)))
       (two-premises Goes _ _ x y i j (derives-goes p) (derives-goes q))
   derives-goes (Derives.R6 {Γ = Γ} {P = P} {Q = Q} {d = d} {n = n} {x = x} {y = y} {i = i} {j = j} node f c p q) =
-      enter n 76 (i + j) d (P ∷ []) (x ∷ y ∷ []) Γ (¬ᵗ Q) node (omega arith) (shapes-join formula P [] [] (has-class 5 P f) refl) refl (no-needs Γ) no-others (closed-1 P c)
+      enter n 76 (i + j) d (P ∷ []) (x ∷ y ∷ []) Γ (¬ᵗ Q) node (omega arith) (one-formula P f) refl (no-needs Γ) no-others (closed-1 P c)
       (no-fresh Γ (¬ᵗ Q)) (ready-more rd _ _ x _ (derives-rule p) (ready-more rd _ [] y [] (derives-rule q) (ready-0 rd)))
       (two-premises Goes _ _ x y i j (derives-goes p) (derives-goes q))
   derives-goes (Derives.R7 {Γ = Γ} {B = B} {c = e} {d = d} {n = n} {x = x} {i = i} node f c fresh p) =
-      enter n 77 i d (constantᵗ e ∷ B ⟨ constantᵗ e ⟩ ∷ []) (x ∷ []) Γ (allᵗ B) node (omega arith)
-      (shapes-join formula (B ⟨ constantᵗ e ⟩) [] [] (has-class 5 (B ⟨ constantᵗ e ⟩) f) refl) refl (no-needs Γ) no-others
-      (both-join _ _ (closed-2 (constantᵗ e) (B ⟨ constantᵗ e ⟩) (constant-closed e) c) (same-self (B ⟨ constantᵗ e ⟩)))
-      (λ a m. subst (λ (a : ℕ). Fresh a Γ (allᵗ B)) (sym (only-in m)) fresh)
+      enter n 77 i d (constantᵇ e ∷ B ⟨ constantᵇ e ⟩ ∷ []) (x ∷ []) Γ (∀ᵇ B) node (omega arith)
+      (one-formula (B ⟨ constantᵇ e ⟩) f) refl (no-needs Γ) no-others
+      (both-join _ _ (closed-2 (constantᵇ e) (B ⟨ constantᵇ e ⟩) (constant-closed e) c) (same-self (B ⟨ constantᵇ e ⟩)))
+      (every-1 (λ a. Fresh a (∀ᵇ B ∷ Γ)) e fresh)
       (ready-more rd _ [] x [] (derives-rule p) (ready-0 rd)) (one-premise Goes _ x i (derives-goes p))
   derives-goes (Derives.R8 {Γ = Γ} {B = B} {E = E} {d = d} {n = n} {x = x} {i = i} node t c e p) =
-      enter n 78 i d (allᵗ B ∷ E ∷ []) (x ∷ []) Γ (B ⟨ E ⟩) node (omega arith)
+      enter n 78 i d (∀ᵇ B ∷ E ∷ []) (x ∷ []) Γ (B ⟨ E ⟩) node (omega arith)
       (shapes-join term E [] [] (has-class 4 E t) refl) refl (no-needs Γ) no-others
-      (both-join _ _ (closed-2 (allᵗ B) E c e) (same-self (B ⟨ E ⟩))) (no-fresh Γ (B ⟨ E ⟩))
+      (both-join _ _ (closed-2 (∀ᵇ B) E c e) (same-self (B ⟨ E ⟩))) (no-fresh Γ (B ⟨ E ⟩))
       (ready-more rd _ [] x [] (derives-rule p) (ready-0 rd)) (one-premise Goes _ x i (derives-goes p))
   derives-goes (Derives.R9 {Γ = Γ} {B = B} {E = E} {F = F} {d = d} {n = n} {x = x} {y = y} {i = i} {j = j} node f g o c e p q) =
       enter n 79 (i + j) d (B ∷ E =ᵗ F ∷ B ⟨ E ⟩ ∷ []) (x ∷ y ∷ []) Γ (B ⟨ F ⟩) node (omega arith)
-      (shapes-join formula B (equation ∷ formula ∷ []) (E =ᵗ F ∷ B ⟨ E ⟩ ∷ []) (has-class 5 B f) (shapes-join formula (B ⟨ E ⟩) [] [] (has-class 5 (B ⟨ E ⟩) g) refl)) refl (no-needs Γ) no-others
-      (both-join _ _ (free-below 1 B (λ a h. let z : a ≡ 0 = o a h in omega arith))
+      (shapes-join formula B (equation ∷ formula ∷ []) (E =ᵗ F ∷ B ⟨ E ⟩ ∷ []) (has-class 5 B f) (one-formula (B ⟨ E ⟩) g))
+      refl (no-needs Γ) no-others
+      (both-join _ _ (indices-out o)
       (both-join _ _ (closed-2 (E =ᵗ F) (B ⟨ E ⟩) c e) (both-join _ _ (same-self (B ⟨ E ⟩)) (same-self (B ⟨ F ⟩))))) (no-fresh Γ (B ⟨ F ⟩))
       (ready-more rd _ _ x _ (derives-rule p) (ready-more rd _ [] y [] (derives-rule q) (ready-0 rd)))
       (two-premises Goes _ _ x y i j (derives-goes p) (derives-goes q))

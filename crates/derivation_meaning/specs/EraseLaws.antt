@@ -1,4 +1,4 @@
--- Types removed: what becomes of the signs, of replacement, of free variables and constants, and of classes.
+-- Types removed: the signs, replacement, unbound indices and constants, and classes of trees without types.
 use Prim.Native.Nat.{ℕ, _+_, _<_}
 use mathlib.Core.Path.{_≡_, refl, sym, ap, subst, _∙_}
 use mathlib.Core.Bool.{Bool, true, false, false≢true}
@@ -8,10 +8,10 @@ use borrow.Author.Tests.{eqb-true, eqb-false, eq-eqb, ne-eqb}
 use Rattle.reader.specs.Tests.{ifEq, ifLt, ifTrue}
 use Rattle.reader.specs.Kinds.{class, role}
 use Rattle.reader.specs.Trees.{Tree, leaf, node, kindOf, ⊥ᵗ, ⊤ᵗ, _∧ᵗ_, _⇒ᵗ_, ¬ᵗ_, ∀ᵗ, _=ᵗ_}
-use Rattle.reader.specs.Variables.{binders, isIndex, replaced, isBound, indicesBelow, isConstant, occurs}
-use Rattle.derivation_rules.specs.Erase.{isType, untyped, bare, ⌊_⌋}
-use Rattle.derivation_meaning.specs.Notions.{Free, Closed, OpenInZero, Stands, Occurs, IsFormula, IsTerm, constantᵗ, allᵗ}
-use Rattle.derivation_meaning.specs.TestLaws.{below-free, in-occurs}
+use Rattle.reader.specs.Variables.{binders, isIndex, replaced, indexBelow, indicesBelow, isConstant, occurs}
+use Rattle.reader.specs.Notions.{IsTerm, IsFormula, IndicesBelow, Occurs}
+use Rattle.reader_laws.specs.NotionLaws.{indices-in, occurs-out}
+use Rattle.derivation_rules.specs.Erase.{isType, untyped, bare, ⌊_⌋, constantᵇ, ∀ᵇ}
 
 -- Signs.
 
@@ -35,7 +35,7 @@ pub erase-not : (P : Tree) → ⌊ ¬ᵗ P ⌋ ≡ ¬ᵗ ⌊ P ⌋
 unfolding ⌊_⌋ bare untyped isType role ifEq ifLt ifTrue
 erase-not P = refl
 
-pub erase-all : (τ B : Tree) → ⌊ ∀ᵗ τ B ⌋ ≡ allᵗ ⌊ B ⌋
+pub erase-all : (τ B : Tree) → ⌊ ∀ᵗ τ B ⌋ ≡ ∀ᵇ ⌊ B ⌋
 unfolding ⌊_⌋ bare untyped isType role ifEq ifLt ifTrue
 erase-all τ B = refl
 
@@ -43,11 +43,11 @@ pub erase-equal : (t u : Tree) → ⌊ t =ᵗ u ⌋ ≡ ⌊ t ⌋ =ᵗ ⌊ u ⌋
 unfolding ⌊_⌋ bare untyped isType role ifEq ifLt ifTrue
 erase-equal t u = refl
 
-pub erase-constant : (c : ℕ) (τ : Tree) → ⌊ node 7 c τ leaf leaf ⌋ ≡ constantᵗ c
+pub erase-constant : (c : ℕ) (τ : Tree) → ⌊ node 7 c τ leaf leaf ⌋ ≡ constantᵇ c
 unfolding ⌊_⌋ bare untyped isType role ifEq ifLt ifTrue
 erase-constant c τ = refl
 
--- index i: the variable's type is gone
+-- index i, its type removed
 pub erase-variable : (i : ℕ) (τ : Tree) → ⌊ node 9 i leaf τ leaf ⌋ ≡ node 9 i leaf leaf leaf
 unfolding ⌊_⌋ bare untyped isType role ifEq ifLt ifTrue
 erase-variable i τ = refl
@@ -56,7 +56,7 @@ pub erase-for-all-types : (count : ℕ) (P : Tree) → ⌊ node 22 count leaf P 
 unfolding ⌊_⌋ bare ifEq
 erase-for-all-types count P = refl
 
--- The three ways of a node.
+-- A node without types, in the three cases of its kind: 15, 22, another.
 module _ (k a : ℕ) (x y z : Tree) where
   pub bare-true : k ≡ 15 → bare k a x y z ≡ ¬ᵗ ⊥ᵗ
   unfolding bare ifEq
@@ -80,7 +80,7 @@ module _ (k a : ℕ) (x y z : Tree) where
       go false e true q = subst C (sym (bare-types (eqb-true k 22 q))) (g (eqb-true k 22 q))
       go false e false q = subst C (sym (bare-node (eqb-false k 15 e) (eqb-false k 22 q))) (h (eqb-false k 15 e) (eqb-false k 22 q))
 
--- a word's tree is gone, or it stays
+-- a word's tree, which is removed or kept
 untyped-cases : (k w : ℕ) (t : Tree) (C : Tree → Type 0) → C leaf → C t → C (untyped k w t)
 unfolding untyped ifTrue
 untyped-cases k w t C p q = go (isType k w) refl
@@ -89,70 +89,61 @@ untyped-cases k w t C p q = go (isType k w) refl
     go true e = subst C (sym (ap (λ (b : Bool). ifTrue b leaf t) e)) p
     go false e = subst C (sym (ap (λ (b : Bool). ifTrue b leaf t) e)) q
 
--- Free variables and constants of a tree without types are those of the tree.
+-- The unbound indices of a tree without types are below d where those of the tree are; its constants are constants of the tree.
 
-no-free : (t : Tree) → indicesBelow 0 t ≡ true → (i : ℕ) → Free i t → ⊥
-no-free t h i f = let l : i < 0 = below-free 0 h f in absurd (omega arith)
+-- ¬⊥ has no index
+no-index : (d : ℕ) → IndicesBelow d (¬ᵗ ⊥ᵗ)
+unfolding indicesBelow indexBelow
+no-index d = indices-in d (¬ᵗ ⊥ᵗ) refl
+
+-- a node whose parts without types are u, v, w
+indices-node : (d k a : ℕ) (u v w : Tree) → (k ≡ 9 → a < d) → IndicesBelow d u → IndicesBelow (d + binders k) v → IndicesBelow d w →
+    IndicesBelow d (bare k a u v w)
+unfolding binders
+indices-node d k a u v w own p q r = bare-cases k a u v w (IndicesBelow d) (λ e. no-index d) for-all-types (λ m n. other)
+  where
+    for-all-types : k ≡ 22 → IndicesBelow d v
+    for-all-types e =
+        let none : binders k ≡ 0 = ap binders e in
+        let same : d + binders k ≡ d = omega arith in
+        subst (λ (j : ℕ). IndicesBelow j v) same q
+
+    other : IndicesBelow d (node k a (untyped k 1 u) (untyped k 2 v) (untyped k 3 w))
+    other =
+        IndicesBelow.inside own (untyped-cases k 1 u (IndicesBelow d) IndicesBelow.none p)
+        (untyped-cases k 2 v (IndicesBelow (d + binders k)) IndicesBelow.none q) (untyped-cases k 3 w (IndicesBelow d) IndicesBelow.none r)
+
+-- so a closed tree stays closed, and one that is open in index 0 at most stays so
+pub indices-erase : {d : ℕ} {t : Tree} → IndicesBelow d t → IndicesBelow d ⌊ t ⌋
+unfolding ⌊_⌋
+indices-erase IndicesBelow.none = IndicesBelow.none
+indices-erase (IndicesBelow.inside {d = d} {k = k} {a = a} {x = x} {y = y} {z = z} own p q r) =
+    indices-node d k a ⌊ x ⌋ ⌊ y ⌋ ⌊ z ⌋ own (indices-erase p) (indices-erase q) (indices-erase r)
 
 no-constant : (t : Tree) (c : ℕ) → occurs c t ≡ false → Occurs c t → ⊥
-no-constant t c h o = false≢true (sym h ∙ in-occurs o)
+no-constant t c h o = false≢true (sym h ∙ occurs-out o)
 
 -- a node with the parts x, y, z, whose parts without types are u, v, w
-free-node : (i k a : ℕ) (x y z u v w : Tree) → ((j : ℕ) → Free j u → Free j x) → ((j : ℕ) → Free j v → Free j y) → ((j : ℕ) → Free j w → Free j z) →
-    Free i (bare k a u v w) → Free i (node k a x y z)
-unfolding indicesBelow isBound binders
-free-node i k a x y z u v w fx fy fz f =
-    bare-cases k a u v w (λ t. Free i t → Free i (node k a x y z)) (λ e f. absurd (no-free (¬ᵗ ⊥ᵗ) refl i f)) for-all-types (λ p q. other) f
-  where
-    for-all-types : k ≡ 22 → Free i v → Free i (node k a x y z)
-    for-all-types e f =
-        let none : binders k ≡ 0 = ap binders e in
-        let same : i ≡ i + binders k = omega arith in
-        Free.inSecond (subst (λ (j : ℕ). Free j y) same (fy i f))
-
-    none : (j : ℕ) (t : Tree) → Free j leaf → Free j t
-    none j t f = absurd (no-free leaf refl j f)
-
-    other : Free i (node k a (untyped k 1 u) (untyped k 2 v) (untyped k 3 w)) → Free i (node k a x y z)
-    other (Free.itself p q) = Free.itself p q
-    other (Free.inFirst f) = Free.inFirst (untyped-cases k 1 u (λ t. Free i t → Free i x) (none i x) (fx i) f)
-    other (Free.inSecond f) =
-        Free.inSecond (untyped-cases k 2 v (λ t. Free (i + binders k) t → Free (i + binders k) y) (none (i + binders k) y) (fy (i + binders k)) f)
-    other (Free.inThird f) = Free.inThird (untyped-cases k 3 w (λ t. Free i t → Free i z) (none i z) (fz i) f)
-
-pub free-erase : (i : ℕ) (t : Tree) → Free i ⌊ t ⌋ → Free i t
-unfolding ⌊_⌋
-free-erase i leaf f = f
-free-erase i (node k a x y z) f =
-    free-node i k a x y z ⌊ x ⌋ ⌊ y ⌋ ⌊ z ⌋ (λ j. free-erase j x) (λ j. free-erase j y) (λ j. free-erase j z) f
-
 occurs-node : (c k a : ℕ) (x y z u v w : Tree) → (Occurs c u → Occurs c x) → (Occurs c v → Occurs c y) → (Occurs c w → Occurs c z) →
     Occurs c (bare k a u v w) → Occurs c (node k a x y z)
 unfolding occurs isConstant
 occurs-node c k a x y z u v w ox oy oz o =
-    bare-cases k a u v w (λ t. Occurs c t → Occurs c (node k a x y z)) (λ e o. absurd (no-constant (¬ᵗ ⊥ᵗ) c refl o)) (λ e o. Stands.inSecond (oy o))
+    bare-cases k a u v w (λ t. Occurs c t → Occurs c (node k a x y z)) (λ e o. absurd (no-constant (¬ᵗ ⊥ᵗ) c refl o)) (λ e o. Occurs.second (oy o))
     (λ p q. other) o
   where
     none : (t : Tree) → Occurs c leaf → Occurs c t
     none t o = absurd (no-constant leaf c refl o)
 
     other : Occurs c (node k a (untyped k 1 u) (untyped k 2 v) (untyped k 3 w)) → Occurs c (node k a x y z)
-    other (Stands.itself p q) = Stands.itself p q
-    other (Stands.inFirst o) = Stands.inFirst (untyped-cases k 1 u (λ t. Occurs c t → Occurs c x) (none x) ox o)
-    other (Stands.inSecond o) = Stands.inSecond (untyped-cases k 2 v (λ t. Occurs c t → Occurs c y) (none y) oy o)
-    other (Stands.inThird o) = Stands.inThird (untyped-cases k 3 w (λ t. Occurs c t → Occurs c z) (none z) oz o)
+    other (Occurs.itself p q) = Occurs.itself p q
+    other (Occurs.first o) = Occurs.first (untyped-cases k 1 u (λ t. Occurs c t → Occurs c x) (none x) ox o)
+    other (Occurs.second o) = Occurs.second (untyped-cases k 2 v (λ t. Occurs c t → Occurs c y) (none y) oy o)
+    other (Occurs.third o) = Occurs.third (untyped-cases k 3 w (λ t. Occurs c t → Occurs c z) (none z) oz o)
 
 pub occurs-erase : (c : ℕ) (t : Tree) → Occurs c ⌊ t ⌋ → Occurs c t
 unfolding ⌊_⌋
 occurs-erase c leaf o = o
 occurs-erase c (node k a x y z) o = occurs-node c k a x y z ⌊ x ⌋ ⌊ y ⌋ ⌊ z ⌋ (occurs-erase c x) (occurs-erase c y) (occurs-erase c z) o
-
--- a closed tree stays closed, one that is open in index 0 at most stays so
-pub closed-erase : (t : Tree) → indicesBelow 0 t ≡ true → Closed ⌊ t ⌋
-closed-erase t h i f = no-free t h i (free-erase i t f)
-
-pub open-erase : (t : Tree) → indicesBelow 1 t ≡ true → OpenInZero ⌊ t ⌋
-open-erase t h i f = let l : i < 1 = below-free 1 h (free-erase i t f) in omega arith
 
 -- Replacement.
 
@@ -230,7 +221,7 @@ replaced-erase d t (node k a x y z) =
 -- Classes.
 
 class-erase : (c : ℕ) (t : Tree) → class (kindOf t) ≡ c → (c ≡ 7 → ⊥) → class (kindOf ⌊ t ⌋) ≡ c
-unfolding ⌊_⌋ kindOf class
+unfolding ⌊_⌋ kindOf class ifLt
 class-erase c leaf h p = h
 class-erase c (node k a x y z) h p =
     bare-cases k a ⌊ x ⌋ ⌊ y ⌋ ⌊ z ⌋ (λ u. class (kindOf u) ≡ c)

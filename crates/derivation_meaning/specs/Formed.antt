@@ -8,26 +8,24 @@ use native.Mathlib.Omega.{arith}
 use borrow.Author.Tests.{eqb-true, eqb-false, ltb-true, ltb-false}
 use Rattle.reader.specs.Words.{Reader}
 use Rattle.reader.specs.Tests.{every, ifEq, ifLt, ifTrue}
-use Rattle.reader.specs.Kinds.{class, role}
-use Rattle.reader.specs.At.{classAt}
+use Rattle.reader.specs.Kinds.{class, role, classAt}
 use Rattle.reader.specs.Trees.{Tree, leaf, node, lower, child, atom, tree, kindOf}
 use Rattle.reader.specs.Chains.{items}
 use Rattle.reader.specs.Records.{hasClass}
 use Rattle.reader.specs.Places.{isHypothesis}
-use Rattle.reader.specs.Laws.{below, tree-zero, tree-step, lower-below, items-zero, items-step}
+use Rattle.reader.specs.TreeLaws.{below, tree-zero, tree-step, lower-below, items-zero, items-step}
+use Rattle.reader.specs.Notions.{IsTerm, IsFormula}
 use Rattle.reader_laws.specs.Scan.{every-head, either-parts}
 use Rattle.reader_laws.specs.Record.{Sound, class-is, items-are}
 use Rattle.reader_laws.specs.Classes.{term-class, formula-class, function-class, link-class, class-of-kind}
 use Rattle.reader_laws.specs.Parts
 use Rattle.derivation_rules.specs.Erase.{isType, untyped, bare, ⌊_⌋, bareTree}
-use Rattle.derivation_meaning.specs.Notions.{IsFormula, IsTerm}
 use Rattle.derivation_meaning.specs.EraseLaws.{bare-cases, formula-erase}
-use Rattle.derivation_meaning.specs.Formulas.{Term, Arguments, Formula}
-use Rattle.derivation_meaning.specs.Derivable.{WellFormed}
+use Rattle.derivation_meaning.specs.Formulas.{Term, Arguments, Formula, OfLanguage}
 
 -- the class of a record, types removed, is its own, or its kind is 22
 record-class : (rd : Reader) (i c : ℕ) → 0 < i → class (kindOf ⌊ tree rd i ⌋) ≡ c → (rd i 0 ≡ 22) ⊎ (class (rd i 0) ≡ c)
-unfolding ⌊_⌋ class kindOf
+unfolding ⌊_⌋ class kindOf ifLt
 record-class rd i c pos h =
     bare-cases (rd i 0) (atom rd i) ⌊ tree rd (child rd i 1) ⌋ ⌊ tree rd (child rd i 2) ⌋ ⌊ tree rd (child rd i 3) ⌋
     (λ t. class (kindOf t) ≡ c → (rd i 0 ≡ 22) ⊎ (class (rd i 0) ≡ c)) (λ e q. inr (ap class e ∙ q)) (λ e q. inl e) (λ p r q. inr q)
@@ -44,12 +42,12 @@ no-kind rd e = let z : 0 ≡ kindOf (tree rd 0) = ap kindOf (sym (tree-zero rd))
 
 -- a leaf has no class
 leaf-class : (c : ℕ) → class (kindOf ⌊ leaf ⌋) ≡ c → 1 ≤ c → ⊥
-unfolding ⌊_⌋ class kindOf
+unfolding ⌊_⌋ class kindOf ifLt
 leaf-class c h p = absurd (omega arith)
 
 -- a formula is no term
 formula-kind : {rd : Reader} {t : Tree} → Formula rd t → class (kindOf t) ≡ 5
-unfolding class kindOf
+unfolding class kindOf ifLt
 formula-kind Formula.false = refl
 formula-kind (Formula.conjunction p q) = refl
 formula-kind (Formula.implication p q) = refl
@@ -71,7 +69,7 @@ choose {C = C} k l p q = go (eqb k l) refl
 
 -- the class of a link is no other
 not-link : (c : ℕ) → c ≡ class 1 → 2 ≤ c → ⊥
-unfolding class
+unfolding class ifLt
 not-link c e h = absurd (omega arith)
 
 -- a number from l on is l, or is past it
@@ -130,11 +128,17 @@ module _ (mode : ℕ) (rd : Reader) (head : rd 0 0 ≡ 1) (m : ℕ) (all : (j : 
 
     pair-formed : rd i 0 ≡ 10 → Term rd ⌊ tree rd i ⌋
     unfolding ⌊_⌋ bare untyped isType role ifEq ifLt ifTrue
-    pair-formed e = rw (Parts.pair-tree mode rd i sound pos e) (Term.pair (term-at 1 (Parts.pair-first mode rd i sound e)) (term-at 2 (Parts.pair-second mode rd i sound e)))
+    pair-formed e =
+        let first = term-at 1 (Parts.pair-first mode rd i sound e) in
+        let second = term-at 2 (Parts.pair-second mode rd i sound e) in
+        rw (Parts.pair-tree mode rd i sound pos e) (Term.pair first second)
 
     product-formed : rd i 0 ≡ 11 → Term rd ⌊ tree rd i ⌋
     unfolding ⌊_⌋ bare untyped isType role ifEq ifLt ifTrue
-    product-formed e = rw (Parts.product-tree mode rd i sound pos e) (Term.product (term-at 1 (Parts.product-first mode rd i sound e)) (term-at 2 (Parts.product-second mode rd i sound e)))
+    product-formed e =
+        let first = term-at 1 (Parts.product-first mode rd i sound e) in
+        let second = term-at 2 (Parts.product-second mode rd i sound e) in
+        rw (Parts.product-tree mode rd i sound pos e) (Term.product first second)
 
     powerset-formed : rd i 0 ≡ 12 → Term rd ⌊ tree rd i ⌋
     unfolding ⌊_⌋ bare untyped isType role ifEq ifLt ifTrue
@@ -157,11 +161,17 @@ module _ (mode : ℕ) (rd : Reader) (head : rd 0 0 ≡ 1) (m : ℕ) (all : (j : 
 
     and-formed : rd i 0 ≡ 16 → Formula rd ⌊ tree rd i ⌋
     unfolding ⌊_⌋ bare untyped isType role ifEq ifLt ifTrue
-    and-formed e = rw (Parts.and-tree mode rd i sound pos e) (Formula.conjunction (formula-at 1 (Parts.and-first mode rd i sound e)) (formula-at 2 (Parts.and-second mode rd i sound e)))
+    and-formed e =
+        let first = formula-at 1 (Parts.and-first mode rd i sound e) in
+        let second = formula-at 2 (Parts.and-second mode rd i sound e) in
+        rw (Parts.and-tree mode rd i sound pos e) (Formula.conjunction first second)
 
     implies-formed : rd i 0 ≡ 17 → Formula rd ⌊ tree rd i ⌋
     unfolding ⌊_⌋ bare untyped isType role ifEq ifLt ifTrue
-    implies-formed e = rw (Parts.implies-tree mode rd i sound pos e) (Formula.implication (formula-at 1 (Parts.implies-first mode rd i sound e)) (formula-at 2 (Parts.implies-second mode rd i sound e)))
+    implies-formed e =
+        let first = formula-at 1 (Parts.implies-first mode rd i sound e) in
+        let second = formula-at 2 (Parts.implies-second mode rd i sound e) in
+        rw (Parts.implies-tree mode rd i sound pos e) (Formula.implication first second)
 
     not-formed : rd i 0 ≡ 18 → Formula rd ⌊ tree rd i ⌋
     unfolding ⌊_⌋ bare untyped isType role ifEq ifLt ifTrue
@@ -173,11 +183,17 @@ module _ (mode : ℕ) (rd : Reader) (head : rd 0 0 ≡ 1) (m : ℕ) (all : (j : 
 
     equal-formed : rd i 0 ≡ 20 → Formula rd ⌊ tree rd i ⌋
     unfolding ⌊_⌋ bare untyped isType role ifEq ifLt ifTrue
-    equal-formed e = rw (Parts.equal-tree mode rd i sound pos e) (Formula.equation (term-at 1 (Parts.equal-first mode rd i sound e)) (term-at 2 (Parts.equal-second mode rd i sound e)))
+    equal-formed e =
+        let first = term-at 1 (Parts.equal-first mode rd i sound e) in
+        let second = term-at 2 (Parts.equal-second mode rd i sound e) in
+        rw (Parts.equal-tree mode rd i sound pos e) (Formula.equation first second)
 
     member-formed : rd i 0 ≡ 21 → Formula rd ⌊ tree rd i ⌋
     unfolding ⌊_⌋ bare untyped isType role ifEq ifLt ifTrue
-    member-formed e = rw (Parts.member-tree mode rd i sound pos e) (Formula.membership (term-at 1 (Parts.member-first mode rd i sound e)) (term-at 2 (Parts.member-second mode rd i sound e)))
+    member-formed e =
+        let first = term-at 1 (Parts.member-first mode rd i sound e) in
+        let second = term-at 2 (Parts.member-second mode rd i sound e) in
+        rw (Parts.member-tree mode rd i sound pos e) (Formula.membership first second)
 
     term-formed : class (rd i 0) ≡ 4 → Term rd ⌊ tree rd i ⌋
     term-formed h =
@@ -262,7 +278,7 @@ module _ (mode : ℕ) (rd : Reader) (head : rd 0 0 ≡ 1) (m : ℕ) (all : (j : 
         go false e = ltb-false m i e
 
     class-within : (i c : ℕ) → class (rd i 0) ≡ c → 1 ≤ c → i ≤ m
-    unfolding class
+    unfolding class ifLt
     class-within i c h p = within i (positive (rd i 0) h)
       where
         positive : (k : ℕ) → class k ≡ c → 1 ≤ k
@@ -286,8 +302,8 @@ module _ (mode : ℕ) (rd : Reader) (head : rd 0 0 ≡ 1) (m : ℕ) (all : (j : 
         (λ e. known (suc i) (class-within (suc i) 4 e (omega arith)) .term e)
         (record-class rd (suc i) 4 (omega arith) h)
 
-    pub well-formed : WellFormed rd
-    well-formed = record { formulas = formula-of; terms = term-of }
+    pub of-language : OfLanguage rd
+    of-language = record { formulas = formula-of; terms = term-of }
 
     -- a record of class formula, and a hypothesis
     pub formula-record : (i : ℕ) → class (kindOf (tree rd i)) ≡ 5 → Formula rd (bareTree rd i)

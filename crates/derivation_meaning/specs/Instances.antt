@@ -1,5 +1,5 @@
--- Types put in for type variables are gone once types are removed, for type variables stand in types only.
-use Prim.Native.Nat.{ℕ}
+-- Types put in place of type variables are removed with the types, for type variables are in types only.
+use Prim.Native.Nat.{ℕ, _<_}
 use mathlib.Core.Path.{_≡_, refl, ap, subst, _∙_}
 use mathlib.Core.List.{List}
 use mathlib.Core.Bool.{Bool, true, false}
@@ -10,10 +10,10 @@ use Rattle.reader.specs.Words.{Reader}
 use Rattle.reader.specs.Tests.{ifTrue}
 use Rattle.reader.specs.Trees.{Tree, leaf, node}
 use Rattle.reader.specs.Variables.{instance}
+use Rattle.reader.specs.Notions.{TypesBelow}
 use Rattle.derivation_rules.specs.Erase.{isType, untyped, bare, ⌊_⌋}
-use Rattle.derivation_meaning.specs.Notions.{Stands}
-use Rattle.derivation_meaning.specs.EraseLaws.{bare-true, bare-types, bare-node, bare-cases}
 use Rattle.derivation_meaning.specs.Formulas.{Term, Arguments, Formula}
+use Rattle.derivation_meaning.specs.EraseLaws.{bare-true, bare-types, bare-node, bare-cases}
 
 untyped-same : (k w : ℕ) (x y : Tree) → (isType k w ≡ false → x ≡ y) → untyped k w x ≡ untyped k w y
 unfolding untyped ifTrue
@@ -23,13 +23,17 @@ untyped-same k w x y h = go (isType k w) refl
     go true e = simp (untyped, ifTrue, e)
     go false e = simp (untyped, ifTrue, e) (h e)
 
-untyped-kept : (k w : ℕ) (t : Tree) → isType k w ≡ false → t ≡ untyped k w t
+untyped-kept : (k w : ℕ) (t : Tree) → isType k w ≡ false → untyped k w t ≡ t
 unfolding untyped ifTrue
 untyped-kept k w t e = simp (untyped, ifTrue, e)
 
--- no type variable stands in the tree
+-- no type variable is in the tree
 abbrev pub Typeless : Tree → Type 0
-Typeless t = (a : ℕ) → Stands 6 a t → ⊥
+Typeless t = TypesBelow 0 t
+
+-- a node that is no type variable, and whose parts have none
+typeless-parts : {k a : ℕ} {x y z : Tree} → Typeless (node k a x y z) → (k ≡ 6 → a < 0) × Typeless x × Typeless y × Typeless z
+typeless-parts (TypesBelow.inside own p q r) = (own, p, q, r)
 
 -- a node with the parts x, y, z; u, v, w are they without types, p, q, r with the types put in and then without types
 bare-instance : (k a : ℕ) (u v w p q r : Tree) → (Typeless u → p ≡ u) → (Typeless v → q ≡ v) → (Typeless w → r ≡ w) → Typeless (bare k a u v w) →
@@ -40,15 +44,17 @@ bare-instance k a u v w p q r first second third =
     other : (k ≡ 15 → ⊥) → (k ≡ 22 → ⊥) → Typeless (node k a (untyped k 1 u) (untyped k 2 v) (untyped k 3 w)) →
         bare k a p q r ≡ node k a (untyped k 1 u) (untyped k 2 v) (untyped k 3 w)
     other m n h =
-        let one = untyped-same k 1 p u (λ e. first (λ b s. h b (Stands.inFirst (subst (Stands 6 b) (untyped-kept k 1 u e) s)))) in
-        let two = untyped-same k 2 q v (λ e. second (λ b s. h b (Stands.inSecond (subst (Stands 6 b) (untyped-kept k 2 v e) s)))) in
-        let three = untyped-same k 3 r w (λ e. third (λ b s. h b (Stands.inThird (subst (Stands 6 b) (untyped-kept k 3 w e) s)))) in
+        let parts = typeless-parts h in
+        let one = untyped-same k 1 p u (λ e. first (subst Typeless (untyped-kept k 1 u e) (parts .1))) in
+        let two = untyped-same k 2 q v (λ e. second (subst Typeless (untyped-kept k 2 v e) (parts .2))) in
+        let three = untyped-same k 3 r w (λ e. third (subst Typeless (untyped-kept k 3 w e) (parts .3))) in
         let here = bare-node k a p q r m n in
         cc
 
 bare-variable : (k a : ℕ) (u v w : Tree) → k ≡ 6 → Typeless (bare k a u v w) → ⊥
 bare-variable k a u v w e =
-    bare-cases k a u v w (λ t. Typeless t → ⊥) (λ q h. absurd (omega arith)) (λ q h. absurd (omega arith)) (λ p q h. h a (Stands.itself e refl))
+    bare-cases k a u v w (λ t. Typeless t → ⊥) (λ q h. absurd (omega arith)) (λ q h. absurd (omega arith))
+    (λ p q h. let below : a < 0 = typeless-parts h .0 e in absurd (omega arith))
 
 instance-node : (types : List Tree) (k a : ℕ) (x y z : Tree) → (k ≡ 6 → ⊥) →
     instance types (node k a x y z) ≡ node k a (instance types x) (instance types y) (instance types z)
@@ -75,54 +81,36 @@ instance-erase types (node k a x y z) h =
 
 -- The language without types has no type variable.
 
-size : Tree → ℕ
-size leaf = 0
-size (node k a x y z) = 1
-
-stands-node : {k a : ℕ} {t : Tree} → Stands k a t → size t ≡ 1
-unfolding size
-stands-node (Stands.itself p q) = refl
-stands-node (Stands.inFirst s) = refl
-stands-node (Stands.inSecond s) = refl
-stands-node (Stands.inThird s) = refl
-
-typeless-leaf : Typeless leaf
-unfolding size
-typeless-leaf a s = absurd (omega (arith, stands-node s))
-
-typeless-node : (k b : ℕ) (x y z : Tree) → (k ≡ 6 → ⊥) → Typeless x → Typeless y → Typeless z → Typeless (node k b x y z)
-typeless-node k b x y z h p q r a (Stands.itself e f) = h e
-typeless-node k b x y z h p q r a (Stands.inFirst s) = p a s
-typeless-node k b x y z h p q r a (Stands.inSecond s) = q a s
-typeless-node k b x y z h p q r a (Stands.inThird s) = r a s
+typeless-node : {k a : ℕ} {x y z : Tree} → eqb k 6 ≡ false → Typeless x → Typeless y → Typeless z → Typeless (node k a x y z)
+typeless-node {k = k} e p q r = TypesBelow.inside (λ same. absurd (eqb-false k 6 e same)) p q r
 
 mutual
   pub term-typeless : {rd : Reader} {t : Tree} → Term rd t → Typeless t
-  term-typeless (Term.constant {c = c} e) = typeless-node 7 c leaf leaf leaf (λ e. absurd (omega arith)) typeless-leaf typeless-leaf typeless-leaf
-  term-typeless (Term.variable {i = i}) = typeless-node 9 i leaf leaf leaf (λ e. absurd (omega arith)) typeless-leaf typeless-leaf typeless-leaf
-  term-typeless (Term.pair p q) = typeless-node 10 0 _ _ leaf (λ e. absurd (omega arith)) (term-typeless p) (term-typeless q) typeless-leaf
-  term-typeless (Term.product p q) = typeless-node 11 0 _ _ leaf (λ e. absurd (omega arith)) (term-typeless p) (term-typeless q) typeless-leaf
-  term-typeless (Term.powerset p) = typeless-node 12 0 _ leaf leaf (λ e. absurd (omega arith)) (term-typeless p) typeless-leaf typeless-leaf
-  term-typeless (Term.application {f = f} e p) =
-      typeless-node 13 0 _ leaf _ (λ e. absurd (omega arith))
-      (typeless-node 8 f leaf leaf leaf (λ e. absurd (omega arith)) typeless-leaf typeless-leaf typeless-leaf) typeless-leaf (arguments-typeless p)
+  term-typeless (Term.constant e) = typeless-node refl TypesBelow.none TypesBelow.none TypesBelow.none
+  term-typeless (Term.variable) = typeless-node refl TypesBelow.none TypesBelow.none TypesBelow.none
+  term-typeless (Term.pair p q) = typeless-node refl (term-typeless p) (term-typeless q) TypesBelow.none
+  term-typeless (Term.product p q) = typeless-node refl (term-typeless p) (term-typeless q) TypesBelow.none
+  term-typeless (Term.powerset p) = typeless-node refl (term-typeless p) TypesBelow.none TypesBelow.none
+  term-typeless (Term.application e p) =
+      typeless-node refl
+      (typeless-node refl TypesBelow.none TypesBelow.none TypesBelow.none) TypesBelow.none (arguments-typeless p)
 
   arguments-typeless : {rd : Reader} {t : Tree} → Arguments rd t → Typeless t
-  arguments-typeless Arguments.none = typeless-leaf
-  arguments-typeless (Arguments.more p q) = typeless-node 1 0 _ leaf _ (λ e. absurd (omega arith)) (term-typeless p) typeless-leaf (arguments-typeless q)
+  arguments-typeless Arguments.none = TypesBelow.none
+  arguments-typeless (Arguments.more p q) = typeless-node refl (term-typeless p) TypesBelow.none (arguments-typeless q)
 
 pub formula-typeless : {rd : Reader} {t : Tree} → Formula rd t → Typeless t
-formula-typeless Formula.false = typeless-node 14 0 leaf leaf leaf (λ e. absurd (omega arith)) typeless-leaf typeless-leaf typeless-leaf
+formula-typeless Formula.false = typeless-node refl TypesBelow.none TypesBelow.none TypesBelow.none
 formula-typeless (Formula.conjunction p q) =
-    typeless-node 16 0 _ _ leaf (λ e. absurd (omega arith)) (formula-typeless p) (formula-typeless q) typeless-leaf
+    typeless-node refl (formula-typeless p) (formula-typeless q) TypesBelow.none
 formula-typeless (Formula.implication p q) =
-    typeless-node 17 0 _ _ leaf (λ e. absurd (omega arith)) (formula-typeless p) (formula-typeless q) typeless-leaf
-formula-typeless (Formula.negation p) = typeless-node 18 0 _ leaf leaf (λ e. absurd (omega arith)) (formula-typeless p) typeless-leaf typeless-leaf
-formula-typeless (Formula.universal p) = typeless-node 19 0 leaf _ leaf (λ e. absurd (omega arith)) typeless-leaf (formula-typeless p) typeless-leaf
+    typeless-node refl (formula-typeless p) (formula-typeless q) TypesBelow.none
+formula-typeless (Formula.negation p) = typeless-node refl (formula-typeless p) TypesBelow.none TypesBelow.none
+formula-typeless (Formula.universal p) = typeless-node refl TypesBelow.none (formula-typeless p) TypesBelow.none
 formula-typeless (Formula.equation p q) =
-    typeless-node 20 0 _ _ leaf (λ e. absurd (omega arith)) (term-typeless p) (term-typeless q) typeless-leaf
+    typeless-node refl (term-typeless p) (term-typeless q) TypesBelow.none
 formula-typeless (Formula.membership p q) =
-    typeless-node 21 0 _ _ leaf (λ e. absurd (omega arith)) (term-typeless p) (term-typeless q) typeless-leaf
+    typeless-node refl (term-typeless p) (term-typeless q) TypesBelow.none
 
 -- a formula's instance is the formula, types removed
 pub instance-formula : {rd : Reader} (types : List Tree) (t : Tree) → Formula rd ⌊ t ⌋ → ⌊ instance types t ⌋ ≡ ⌊ t ⌋

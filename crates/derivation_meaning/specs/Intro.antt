@@ -8,12 +8,12 @@ use native.Mathlib.Omega.{arith}
 use Rattle.reader.specs.Words.{Reader}
 use Rattle.reader.specs.Trees.{Tree, lower}
 use Rattle.reader.specs.Chains.{items, parts, premises}
-use Rattle.reader.specs.Laws.{items-zero, items-step}
+use Rattle.reader.specs.TreeLaws.{items-zero, items-step}
+use Rattle.reader.specs.Members.{_▹_}
+use Rattle.reader.specs.Notions.{_∈_, here, there}
 use Rattle.reader_laws.specs.Scan.{when-less}
 use Rattle.derivation_rules.specs.Erase.{bareTree, bareParts}
-use Rattle.derivation_rules.specs.Rules.{_▹_}
-use Rattle.derivation_meaning.specs.Notions.{_∈_, here, there}
-use Rattle.derivation_meaning.specs.Derives.{Node}
+use Rattle.derivation_meaning.specs.Derives.{DerivationNode}
 
 -- the links from record l on have the items xs
 unfoldable pub Linked : Reader → ℕ → List ℕ → Type 0
@@ -47,12 +47,13 @@ module _ (rd : Reader) where
 -- Record n is of kind k; its chain of parts starts at link l and has the items is, that of its premises starts at link c and has the items xs.
 pub node-at : (rd : Reader) (n k l c : ℕ) (is xs : List ℕ) (ps Γ : List Tree) (d : ℕ) →
     rd n 0 ≡ k → rd n 1 ≡ l → rd n 2 ≡ c → (l < n) × (c < n) → Linked rd l is → Linked rd c xs → map (bareTree rd) is ≡ ps →
-    (length Γ ≤ 2048) × (d ≤ 8192) → Node rd n k ps xs Γ d
+    (length Γ ≤ 2048) × (d ≤ 8192) → DerivationNode rd n k ps xs Γ d
 unfolding bareParts parts premises
 node-at rd n k l c is xs ps Γ d kind first second small part-links premise-links trees limits =
+    let part-items : items rd (lower rd n 1) ≡ is = ap (items rd) (lower-is rd n 1 l first (small .0)) ∙ linked-items rd l is part-links in
     record {
       kind = kind;
-      partsOf = ap (λ (i : ℕ). map (bareTree rd) (items rd i)) (lower-is rd n 1 l first (small .0)) ∙ ap (map (bareTree rd)) (linked-items rd l is part-links) ∙ trees;
+      partsOf = ap (map (bareTree rd)) part-items ∙ trees;
       premisesOf = ap (items rd) (lower-is rd n 2 c second (small .1)) ∙ linked-items rd c xs premise-links;
       members = limits .0;
       depth = limits .1;

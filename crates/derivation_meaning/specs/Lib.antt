@@ -1,8 +1,8 @@
-pub mod Notions
 pub mod Formulas
 pub mod Derives
 pub mod Derivable
-pub mod TestLaws
+pub mod Statements
+pub mod MemberLaws
 pub mod EraseLaws
 pub mod Instances
 pub mod Plain
@@ -12,5 +12,7 @@ pub mod Sound
 pub mod Complete
 pub mod Formed
 pub mod Start
-pub mod Meaning
+pub mod DerivableLaws
+pub mod WalkMeans
+pub mod Theorems
 pub mod Intro

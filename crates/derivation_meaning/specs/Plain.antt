@@ -1,4 +1,4 @@
--- A tree with its types removed has at each node only what its kind has: so a formula is its sign, around its parts.
+-- A tree with its types removed has at each node only what its kind has: so a formula is its sign with its parts.
 use Prim.Native.Nat.{ℕ, zero, suc, _<_}
 use mathlib.Core.Path.{_≡_, refl, ap, _∙_}
 use mathlib.Core.List.{List, [], _∷_, map}
@@ -8,17 +8,16 @@ use native.Mathlib.Omega.{arith}
 use borrow.Author.Tests.{ltb-true}
 use Rattle.reader.specs.Words.{Reader}
 use Rattle.reader.specs.Tests.{either, ifEq, ifLt, ifTrue}
-use Rattle.reader.specs.Kinds.{role, isNumber, isSymbol}
-use Rattle.reader.specs.At.{roleAt}
+use Rattle.reader.specs.Kinds.{role, isNumber, isSymbol, roleAt}
 use Rattle.reader.specs.Trees.{Tree, leaf, node, lower, child, atom, tree, kindOf, atomOf, firstOf, secondOf, thirdOf, ⊥ᵗ, _∧ᵗ_, _⇒ᵗ_, ¬ᵗ_, _=ᵗ_}
 use Rattle.reader.specs.Chains.{parts}
 use Rattle.reader.specs.Places.{negatedGoal}
-use Rattle.reader.specs.Laws.{below, child-below, tree-zero, tree-step}
+use Rattle.reader.specs.TreeLaws.{below, child-below, tree-zero, tree-step}
+use Rattle.reader.specs.Notions.{_∈_, here, there}
 use Rattle.reader_laws.specs.Scan.{when-less}
-use Rattle.derivation_rules.specs.Erase.{isType, untyped, bare, ⌊_⌋, bareTree, bareParts}
-use Rattle.derivation_rules.specs.Check.{goalOf}
-use Rattle.derivation_meaning.specs.Notions.{_∈_, here, there, constantᵗ, allᵗ}
-use Rattle.derivation_meaning.specs.TestLaws.{none-in}
+use Rattle.derivation_rules.specs.Erase.{isType, untyped, bare, ⌊_⌋, bareTree, bareParts, constantᵇ, ∀ᵇ}
+use Rattle.derivation_rules.specs.Check.{bareGoal}
+use Rattle.derivation_meaning.specs.MemberLaws.{none-in}
 
 -- word w of a record of kind k is a part of the record's tree, and no type
 unfoldable pub isPart : ℕ → ℕ → Bool
@@ -28,7 +27,7 @@ isPart k w = ifLt (role k w) 10 false (not (isType k w))
 unfoldable pub hasAtom : ℕ → Bool
 hasAtom k = either (isSymbol k) (isNumber (role k 1))
 
--- what is left of a node where only that stands
+-- a node with nothing but these
 unfoldable pub kept : ℕ → ℕ → Tree → Tree → Tree → Tree
 kept k a x y z = node k (ifTrue (hasAtom k) a 0) (ifTrue (isPart k 1) x leaf) (ifTrue (isPart k 2) y leaf) (ifTrue (isPart k 3) z leaf)
 
@@ -55,7 +54,7 @@ plain-kind (node l a x y z) k p e = p .0 ∙ ap (λ (m : ℕ). kept m a x y z) e
 
 -- The signs.
 module _ (t : Tree) (p : Plain t) where
-  pub plain-constant : kindOf t ≡ 7 → t ≡ constantᵗ (atomOf t)
+  pub plain-constant : kindOf t ≡ 7 → t ≡ constantᵇ (atomOf t)
   unfolding kept isPart hasAtom isType role either ifEq ifLt ifTrue isSymbol isNumber
   plain-constant e = plain-kind t 6 p e
 
@@ -75,7 +74,7 @@ module _ (t : Tree) (p : Plain t) where
   unfolding kept isPart hasAtom isType role either ifEq ifLt ifTrue isSymbol isNumber
   plain-not e = plain-kind t 17 p e
 
-  pub plain-all : kindOf t ≡ 19 → t ≡ allᵗ (secondOf t)
+  pub plain-all : kindOf t ≡ 19 → t ≡ ∀ᵇ (secondOf t)
   unfolding kept isPart hasAtom isType role either ifEq ifLt ifTrue isSymbol isNumber
   plain-all e = plain-kind t 18 p e
 
@@ -172,6 +171,6 @@ unfolding firstOf ⌊_⌋ Plain
 first-plain rd zero = rw (tree-zero rd) refl
 first-plain rd (suc g) = rw (tree-step rd (suc g) (omega arith)) (tree-plain rd (child rd (suc g) 1))
 
-pub goal-plain : (rd : Reader) → Plain (goalOf rd)
-unfolding goalOf
+pub goal-plain : (rd : Reader) → Plain (bareGoal rd)
+unfolding bareGoal
 goal-plain rd = first-plain rd (negatedGoal rd)

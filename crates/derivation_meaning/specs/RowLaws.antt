@@ -1,8 +1,8 @@
--- The tests of a row, all passed, in the words of Notions; and a row's premises beside the nodes that derive them.
-use Prim.Native.Nat.{ℕ, suc, _+_, _<_, _≤_}
-use mathlib.Core.Path.{_≡_, refl, ap, subst, _∙_}
+-- The tests of a row, all passed, as propositions; and a row's premises beside the nodes that derive them.
+use Prim.Native.Nat.{ℕ, suc, _+_, _≤_}
+use mathlib.Core.Path.{_≡_, refl, ap, _∙_}
 use mathlib.Core.List.{List, [], _∷_}
-use mathlib.Core.Bool.{Bool, true, false, not, false≢true}
+use mathlib.Core.Bool.{Bool, true, false, false≢true}
 use lib.ListN.{length, getD, replicate}
 use native.Mathlib.Omega.{arith}
 use borrow.Author.Tests.{eq-eqb, eqb-true, leb-true, le-leb}
@@ -11,69 +11,44 @@ use Rattle.reader.specs.Tests.{every, ifTrue}
 use Rattle.reader.specs.Kinds.{class, isRule}
 use Rattle.reader.specs.Trees.{Tree, kindOf, same}
 use Rattle.reader.specs.Chains.{premises}
-use Rattle.reader.specs.Variables.{indicesBelow, occurs}
+use Rattle.reader.specs.Variables.{indicesBelow}
+use Rattle.reader.specs.Members.{member, premisesFit}
 use Rattle.reader.specs.Shapes.{Shape, ofClass, ofKind, hasShape, haveShapes}
-use Rattle.reader.specs.Laws.{same-equal, same-self}
-use Rattle.reader.specs.Meaning.{Each}
-use Rattle.reader_laws.specs.Scan.{both-parts, both-join, demand-parts, demand-join}
+use Rattle.reader.specs.Notions.{_∈_, here, there, Every, _⊆_, NoIndex, Fresh}
+use Rattle.reader.specs.TreeLaws.{same-equal, same-self}
+use Rattle.reader.specs.WalkLaws.{Each}
+use Rattle.reader_laws.specs.Scan.{both-parts, both-join, demand-parts, demand-join, every-head}
+use Rattle.reader_laws.specs.NotionLaws.{every-0, every-more, every-in, every-out, member-in, member-out, indices-in, indices-out, fresh-in, fresh-out}
 use Rattle.derivation_rules.specs.Erase.{bareParts}
-use Rattle.derivation_rules.specs.Rules.{Sequent, Row}
-use Rattle.derivation_rules.specs.Check.{member, goalFormed, premisesFit, needsMet, noOther, isFresh, hasRoom, depthFits, rowFault}
-use Rattle.derivation_meaning.specs.Notions.{_∈_, here, there, Closed, Occurs, Fresh}
-use Rattle.derivation_meaning.specs.TestLaws.{none-in, every-in, in-every, member-in, in-member, below-free, free-below, occurs-in, in-occurs}
+use Rattle.derivation_rules.specs.Rules.{State, Row}
+use Rattle.derivation_rules.specs.Check.{goalFormed, needsMet, noOther, inNeither, fewMembers, depthFits, rowFault}
 
-pub record Passed (rd : Reader) (n : ℕ) (st : Sequent) (r : Row) : Type 0 where
+pub record Passed (rd : Reader) (n : ℕ) (st : State) (r : Row) : Type 0 where
   pub shapes : haveShapes (r .shapes) (bareParts rd n) ≡ true
   pub goalShapes : goalFormed (r .goalShapes) (st .goal) ≡ true
   pub number : length (premises rd n) ≡ length (r .premises)
   pub rules : every (λ x. isRule 2 (rd x 0)) (premises rd n) ≡ true
-  pub needs : (t : Tree) → t ∈ r .needs → t ∈ st .members
-  pub others : r .onlyGoal ≡ true → (t : Tree) → t ∈ st .members → t ≡ st .goal
+  pub needs : r .needs ⊆ st .members
+  pub others : r .onlyGoal ≡ true → Every (λ t. t ≡ st .goal) (st .members)
   pub fits : r .fits ≡ true
-  pub fresh : (c : ℕ) → c ∈ r .fresh → Fresh c (st .members) (st .goal)
-  pub room : (s : Sequent) → s ∈ r .premises → length (s .members) ≤ 2048
+  pub fresh : Every (λ c. Fresh c (st .goal ∷ st .members)) (r .fresh)
+  pub limit : Every (λ s. length (s .members) ≤ 2048) (r .premises)
   pub depth : st .depth ≤ 8192
 
 -- "for BR1 another present"
-others-in : (only : Bool) (st : Sequent) → noOther only st ≡ true → only ≡ true → (t : Tree) → t ∈ st .members → t ≡ st .goal
+others-in : (only : Bool) (st : State) → noOther only st ≡ true → only ≡ true → Every (λ t. t ≡ st .goal) (st .members)
 unfolding noOther ifTrue
-others-in true st h e t m = same-equal t (st .goal) (every-in (λ t. same t (st .goal)) h t m)
-others-in false st h e t m = absurd (false≢true e)
+others-in true st h e = every-in (λ t. same t (st .goal)) (λ t. t ≡ st .goal) (λ t q. same-equal t (st .goal) q) (st .members) h
+others-in false st h e = absurd (false≢true e)
 
-in-others : (only : Bool) (st : Sequent) → (only ≡ true → (t : Tree) → t ∈ st .members → t ≡ st .goal) → noOther only st ≡ true
+others-out : (only : Bool) (st : State) → (only ≡ true → Every (λ t. t ≡ st .goal) (st .members)) → noOther only st ≡ true
 unfolding noOther ifTrue
-in-others true st h = in-every (λ t. same t (st .goal)) (st .members) (λ t m. rw (h refl t m) (same-self (st .goal)))
-in-others false st h = refl
+others-out true st h = every-out (λ t. same t (st .goal)) (λ t. t ≡ st .goal) (λ t q. rw q (same-self (st .goal))) (st .members) (h refl)
+others-out false st h = refl
 
--- a test that is not passed
-not-in : (b : Bool) → not b ≡ true → b ≡ true → ⊥
-not-in true h e = false≢true h
-not-in false h e = false≢true e
-
-in-not : (b : Bool) → (b ≡ true → ⊥) → not b ≡ true
-in-not true h = absurd (h refl)
-in-not false h = refl
-
-fresh-in : (st : Sequent) (c : ℕ) → isFresh st c ≡ true → Fresh c (st .members) (st .goal)
-unfolding isFresh
-fresh-in st c h =
-    let none = every-in (λ t. not (occurs c t)) h in
-    record {
-      notInGoal = λ o. not-in _ (none (st .goal) (here refl)) (in-occurs o);
-      notInMembers = λ t m o. not-in _ (none t (there m)) (in-occurs o);
-    }
-
-in-fresh : (st : Sequent) (c : ℕ) → Fresh c (st .members) (st .goal) → isFresh st c ≡ true
-unfolding isFresh
-in-fresh st c f = in-every (λ t. not (occurs c t)) (st .goal ∷ st .members) go
-  where
-    go : (t : Tree) → t ∈ (st .goal ∷ st .members) → not (occurs c t) ≡ true
-    go t (here e) = in-not _ (λ o. f .notInGoal (subst (Occurs c) e (occurs-in c t o)))
-    go t (there m) = in-not _ (λ o. f .notInMembers t m (occurs-in c t o))
-
-module _ (rd : Reader) (n : ℕ) (st : Sequent) (r : Row) where
+module _ (rd : Reader) (n : ℕ) (st : State) (r : Row) where
   pub no-fault : rowFault rd n st r ≡ 0 → Passed rd n st r
-  unfolding rowFault premisesFit needsMet hasRoom depthFits
+  unfolding rowFault premisesFit needsMet inNeither fewMembers depthFits
   no-fault h =
       let a = demand-parts _ 13 _ h refl in
       let b = demand-parts _ 13 _ (a .1) refl in
@@ -90,25 +65,25 @@ module _ (rd : Reader) (n : ℕ) (st : Sequent) (r : Row) where
         goalShapes = b .0;
         number = eqb-true _ _ (p .0);
         rules = p .1;
-        needs = λ t m. member-in t (st .members) (every-in (λ t. member t (st .members)) (d .0) t m);
+        needs = every-in (λ t. member t (st .members)) (λ t. t ∈ st .members) (λ t. member-in t (st .members)) (r .needs) (d .0);
         others = others-in (r .onlyGoal) st (e .0);
         fits = f .0;
-        fresh = λ c m. fresh-in st c (every-in (isFresh st) (g .0) c m);
-        room = λ s m. leb-true (length (s .members)) 2048 (every-in hasRoom (i .0) s m);
+        fresh = every-in (inNeither st) (λ c. Fresh c (st .goal ∷ st .members)) (λ c. fresh-in c (st .goal ∷ st .members)) (r .fresh) (g .0);
+        limit = every-in fewMembers (λ s. length (s .members) ≤ 2048) (λ s. leb-true (length (s .members)) 2048) (r .premises) (i .0);
         depth = leb-true (st .depth) 8192 (j .0);
       }
 
   pub faultless : Passed rd n st r → rowFault rd n st r ≡ 0
-  unfolding rowFault premisesFit needsMet hasRoom depthFits
+  unfolding rowFault premisesFit needsMet inNeither fewMembers depthFits
   faultless p =
       demand-join _ 13 _ (p .shapes)
       (demand-join _ 13 _ (p .goalShapes)
       (demand-join _ 13 _ (both-join _ _ (eq-eqb _ _ (p .number)) (p .rules))
-      (demand-join _ 14 _ (in-every (λ t. member t (st .members)) (r .needs) (λ t m. in-member t (p .needs t m)))
-      (demand-join _ 14 _ (in-others (r .onlyGoal) st (p .others))
+      (demand-join _ 14 _ (every-out (λ t. member t (st .members)) (λ t. t ∈ st .members) (λ t. member-out t (st .members)) (r .needs) (p .needs))
+      (demand-join _ 14 _ (others-out (r .onlyGoal) st (p .others))
       (demand-join _ 15 _ (p .fits)
-      (demand-join _ 16 _ (in-every (isFresh st) (r .fresh) (λ c m. in-fresh st c (p .fresh c m)))
-      (demand-join _ 17 _ (in-every hasRoom (r .premises) (λ s m. le-leb (length (s .members)) 2048 (p .room s m)))
+      (demand-join _ 16 _ (every-out (inNeither st) (λ c. Fresh c (st .goal ∷ st .members)) (λ c. fresh-out c (st .goal ∷ st .members)) (r .fresh) (p .fresh))
+      (demand-join _ 17 _ (every-out fewMembers (λ s. length (s .members) ≤ 2048) (λ s. le-leb (length (s .members)) 2048) (r .premises) (p .limit))
       (demand-join _ 18 0 (le-leb (st .depth) 8192 (p .depth)) refl))))))))
 
 -- Shapes.
@@ -164,17 +139,17 @@ shapes-3 s r q (t ∷ ts) h =
     (t, o .0, o .1, ap (λ (us : List Tree). t ∷ us) (o .2), p .0, o .3, o .4)
 
 -- all of one shape
-pub shapes-all : (s : Shape) (ts : List Tree) → haveShapes (replicate (length ts) s) ts ≡ true → (t : Tree) → t ∈ ts → hasShape s t ≡ true
-shapes-all s [] h t m = none-in m
-shapes-all s (u ∷ ts) h t (here e) = rw e (shapes-head s u (replicate (length ts) s) ts h .0)
-shapes-all s (u ∷ ts) h t (there m) = shapes-all s ts (shapes-head s u (replicate (length ts) s) ts h .1) t m
+pub shapes-all : (s : Shape) (ts : List Tree) → haveShapes (replicate (length ts) s) ts ≡ true → Every (λ t. hasShape s t ≡ true) ts
+shapes-all s [] h = every-0 (λ t. hasShape s t ≡ true)
+shapes-all s (t ∷ ts) h =
+    let p = shapes-head s t (replicate (length ts) s) ts h in every-more (λ t. hasShape s t ≡ true) t ts (p .0) (shapes-all s ts (p .1))
 
 pub shapes-join : (s : Shape) (t : Tree) (ss : List Shape) (ts : List Tree) → hasShape s t ≡ true → haveShapes ss ts ≡ true →
     haveShapes (s ∷ ss) (t ∷ ts) ≡ true
 unfolding haveShapes
 shapes-join s t ss ts p q = simp (haveShapes, p) q
 
-pub all-shapes : (s : Shape) (ts : List Tree) → ((t : Tree) → t ∈ ts → hasShape s t ≡ true) → haveShapes (replicate (length ts) s) ts ≡ true
+pub all-shapes : (s : Shape) (ts : List Tree) → Every (λ t. hasShape s t ≡ true) ts → haveShapes (replicate (length ts) s) ts ≡ true
 unfolding haveShapes
 all-shapes s [] h = refl
 all-shapes s (t ∷ ts) h = shapes-join s t (replicate (length ts) s) ts (h t (here refl)) (all-shapes s ts (λ u m. h u (there m)))
@@ -182,31 +157,31 @@ all-shapes s (t ∷ ts) h = shapes-join s t (replicate (length ts) s) ts (h t (h
 -- the goal's form
 pub goal-in : (s : Shape) (t : Tree) → goalFormed (s ∷ []) t ≡ true → hasShape s t ≡ true
 unfolding goalFormed
-goal-in s t h = every-in (λ s. hasShape s t) h s (here refl)
+goal-in s t h = every-head (λ s. hasShape s t) s [] h .0
 
 -- closed parts
-pub closed-in : (ts : List Tree) → every (indicesBelow 0) ts ≡ true → (t : Tree) → t ∈ ts → Closed t
-closed-in ts h t m i f = let l : i < 0 = below-free 0 (every-in (indicesBelow 0) h t m) f in absurd (omega arith)
+pub closed-in : (ts : List Tree) → every (indicesBelow 0) ts ≡ true → Every NoIndex ts
+closed-in ts h = every-in (indicesBelow 0) NoIndex (indices-in 0) ts h
 
-pub in-closed : (ts : List Tree) → ((t : Tree) → t ∈ ts → Closed t) → every (indicesBelow 0) ts ≡ true
-in-closed ts h = in-every (indicesBelow 0) ts (λ t m. free-below 0 t (λ i f. absurd (h t m i f)))
+pub closed-out : (ts : List Tree) → Every NoIndex ts → every (indicesBelow 0) ts ≡ true
+closed-out ts h = every-out (indicesBelow 0) NoIndex (λ t. indices-out) ts h
 
 -- Premises.
 
 -- Of the nodes xs, each has Q of the state beside it; their nodes are k in all.
-unfoldable pub Premises : (Sequent → ℕ → ℕ → Type 0) → List Sequent → List ℕ → ℕ → Type 0
+unfoldable pub Premises : (State → ℕ → ℕ → Type 0) → List State → List ℕ → ℕ → Type 0
 Premises Q [] [] k = k ≡ 0
 Premises Q [] (x ∷ xs) k = ⊥
 Premises Q (s ∷ ss) [] k = ⊥
 Premises Q (s ∷ ss) (x ∷ xs) k = (i : ℕ) × (j : ℕ) × Q s x i × Premises Q ss xs j × (k ≡ i + j)
 
-module _ (Q : Sequent → ℕ → ℕ → Type 0) where
+module _ (Q : State → ℕ → ℕ → Type 0) where
   pub premises-0 : (xs : List ℕ) (k : ℕ) → Premises Q [] xs k → (xs ≡ []) × (k ≡ 0)
   unfolding Premises
   premises-0 [] k h = (refl, h)
   premises-0 (x ∷ xs) k h = absurd h
 
-  pub premises-1 : (s : Sequent) (xs : List ℕ) (k : ℕ) → Premises Q (s ∷ []) xs k → (x : ℕ) × (xs ≡ x ∷ []) × Q s x k
+  pub premises-1 : (s : State) (xs : List ℕ) (k : ℕ) → Premises Q (s ∷ []) xs k → (x : ℕ) × (xs ≡ x ∷ []) × Q s x k
   unfolding Premises
   premises-1 s [] k h = absurd h
   premises-1 s (x ∷ xs) k h =
@@ -214,7 +189,7 @@ module _ (Q : Sequent → ℕ → ℕ → Type 0) where
       let z : k ≡ h .0 = omega (arith, h .4, p .1) in
       (x, ap (λ (ys : List ℕ). x ∷ ys) (p .0), rw z (h .2))
 
-  pub premises-2 : (s t : Sequent) (xs : List ℕ) (k : ℕ) → Premises Q (s ∷ t ∷ []) xs k →
+  pub premises-2 : (s t : State) (xs : List ℕ) (k : ℕ) → Premises Q (s ∷ t ∷ []) xs k →
       (x : ℕ) × (y : ℕ) × (i : ℕ) × (j : ℕ) × (xs ≡ x ∷ y ∷ []) × Q s x i × Q t y j × (k ≡ i + j)
   unfolding Premises
   premises-2 s t [] k h = absurd h
@@ -226,24 +201,24 @@ module _ (Q : Sequent → ℕ → ℕ → Type 0) where
   unfolding Premises
   none-premises = refl
 
-  pub one-premise : (s : Sequent) (x k : ℕ) → Q s x k → Premises Q (s ∷ []) (x ∷ []) k
+  pub one-premise : (s : State) (x k : ℕ) → Q s x k → Premises Q (s ∷ []) (x ∷ []) k
   unfolding Premises
   one-premise s x k q = (k, 0, q, refl, omega arith)
 
-  pub two-premises : (s t : Sequent) (x y i j : ℕ) → Q s x i → Q t y j → Premises Q (s ∷ t ∷ []) (x ∷ y ∷ []) (i + j)
+  pub two-premises : (s t : State) (x y i j : ℕ) → Q s x i → Q t y j → Premises Q (s ∷ t ∷ []) (x ∷ y ∷ []) (i + j)
   unfolding Premises
   two-premises s t x y i j p q = (i, j, p, (j, 0, q, refl, omega arith), refl)
 
-  -- the walk's way to name premises, by their number, and this one
-  module _ (next : Sequent → ℕ → ℕ → Sequent) (st : Sequent) (n : ℕ) where
-    head-state : (s : Sequent) (ss : List Sequent) (b : ℕ) → ((j : ℕ) → next st n (b + j) ≡ getD (s ∷ ss) j st) → next st n b ≡ s
+  -- premises by their number, as the walk has them, and as a list
+  module _ (next : State → ℕ → ℕ → State) (st : State) (n : ℕ) where
+    head-state : (s : State) (ss : List State) (b : ℕ) → ((j : ℕ) → next st n (b + j) ≡ getD (s ∷ ss) j st) → next st n b ≡ s
     head-state s ss b h = let z : b ≡ b + 0 = omega arith in ap (next st n) z ∙ h 0
 
-    later-state : (s : Sequent) (ss : List Sequent) (b : ℕ) → ((j : ℕ) → next st n (b + j) ≡ getD (s ∷ ss) j st) →
+    later-state : (s : State) (ss : List State) (b : ℕ) → ((j : ℕ) → next st n (b + j) ≡ getD (s ∷ ss) j st) →
         (j : ℕ) → next st n (b + 1 + j) ≡ getD ss j st
     later-state s ss b h j = let z : b + 1 + j ≡ b + suc j = omega arith in ap (next st n) z ∙ h (suc j)
 
-    pub each-premise : (ss : List Sequent) (xs : List ℕ) (b k : ℕ) → length xs ≡ length ss → ((j : ℕ) → next st n (b + j) ≡ getD ss j st) →
+    pub each-premise : (ss : List State) (xs : List ℕ) (b k : ℕ) → length xs ≡ length ss → ((j : ℕ) → next st n (b + j) ≡ getD ss j st) →
         Each Q next st n b xs k → Premises Q ss xs k
     unfolding Premises Each
     each-premise [] [] b k e h p = p
@@ -252,7 +227,7 @@ module _ (Q : Sequent → ℕ → ℕ → Type 0) where
     each-premise (s ∷ ss) (x ∷ xs) b k e h p =
         (p .0, p .1, rw (head-state s ss b h) at (p .2), each-premise ss xs (b + 1) (p .1) (omega arith) (later-state s ss b h) (p .3), p .4)
 
-    pub premise-each : (ss : List Sequent) (xs : List ℕ) (b k : ℕ) → ((j : ℕ) → next st n (b + j) ≡ getD ss j st) →
+    pub premise-each : (ss : List State) (xs : List ℕ) (b k : ℕ) → ((j : ℕ) → next st n (b + j) ≡ getD ss j st) →
         Premises Q ss xs k → Each Q next st n b xs k
     unfolding Premises Each
     premise-each [] [] b k h p = p

@@ -12,18 +12,21 @@ use Rattle.reader.specs.Words.{Reader}
 use Rattle.reader.specs.Tests.{both, every, ifEq}
 use Rattle.reader.specs.Trees.{Tree, atomOf, firstOf, secondOf, ⊥ᵗ, _∧ᵗ_, _⇒ᵗ_, ¬ᵗ_, _=ᵗ_}
 use Rattle.reader.specs.Chains.{premises}
+use Rattle.reader.specs.Notions.{_∈_, here, there, _⟨_⟩}
 use Rattle.reader.specs.Shapes.{Shape, negated, hasShape, haveShapes, term, formula, constant, conjunction, implication, universal, equation}
-use Rattle.reader.specs.Laws.{same-equal}
-use Rattle.reader.specs.Meaning.{Closed}
+use Rattle.reader.specs.TreeLaws.{same-equal}
+use Rattle.reader.specs.WalkLaws.{Inherited}
 use Rattle.reader_laws.specs.Scan.{both-parts}
-use Rattle.derivation_rules.specs.Erase.{bareParts}
+use Rattle.derivation_rules.specs.Erase.{bareParts, constantᵇ, ∀ᵇ}
 use Rattle.derivation_rules.specs.Rules.{Row, negation, falsity, row}
 use Rattle.derivation_rules.specs.Check.{rowOf, nodeFault, premiseState}
-use Rattle.derivation_meaning.specs.Notions.{_∈_, here, there, constantᵗ, allᵗ, _⟨_⟩}
 use Rattle.derivation_meaning.specs.Derives.{Derives}
-use Rattle.derivation_meaning.specs.Plain.{Plain, plain-first, plain-constant, plain-false, plain-and, plain-implies, plain-not, plain-all, plain-equal, parts-plain}
+use Rattle.derivation_meaning.specs.Plain.{Plain, plain-first, plain-constant, plain-false, plain-and, plain-implies, plain-not, plain-all}
+use Rattle.derivation_meaning.specs.Plain.{plain-equal, parts-plain}
 use Rattle.derivation_meaning.specs.RowLaws.{no-fault, of-kind, shapes-0, shapes-1, shapes-2, shapes-3, shapes-all, goal-in, each-premise}
-use Rattle.derivation_meaning.specs.Cases.{Claim, Good, as-kind, as-parts, as-goal, back, case64, case65, case66, case67, case68, case69, case70, case71, case72, case73, case74, case75, case76, case77, case78, case79, case80}
+use Rattle.derivation_meaning.specs.Cases.{Claim, Good, as-kind, as-parts, as-goal, back}
+use Rattle.derivation_meaning.specs.Cases.{case64, case65, case66, case67, case68, case69, case70, case71, case72}
+use Rattle.derivation_meaning.specs.Cases.{case73, case74, case75, case76, case77, case78, case79, case80}
 
 module _ (rd : Reader) (n c d : ℕ) (Γ : List Tree) (few : length Γ ≤ 2048) where
   one-part : (s : Shape) → haveShapes (s ∷ []) (bareParts rd n) ≡ true → (t : Tree) × (bareParts rd n ≡ t ∷ []) × (hasShape s t ≡ true) × Plain t
@@ -61,23 +64,23 @@ module _ (rd : Reader) (n c d : ℕ) (Γ : List Tree) (few : length Γ ≤ 2048)
       back rd n c d Γ few G Q (sym q) (case74 rd n c d Γ few P Q plain (as-goal rd n c d Γ few 74 (P ⇒ᵗ Q ∷ []) G Q (sym q) h))
 
   -- the second part is B with the first in place of index 0
-  part77 : (e : ℕ) (B u : Tree) → Plain u → hasShape formula u ≡ true → bareParts rd n ≡ constantᵗ e ∷ u ∷ [] →
-      Good rd n c d Γ 77 (bareParts rd n) (allᵗ B) → Derives rd Γ (allᵗ B) d n (suc c)
+  part77 : (e : ℕ) (B u : Tree) → Plain u → hasShape formula u ≡ true → bareParts rd n ≡ constantᵇ e ∷ u ∷ [] →
+      Good rd n c d Γ 77 (bareParts rd n) (∀ᵇ B) → Derives rd Γ (∀ᵇ B) d n (suc c)
   unfolding row ifEq secondOf
   part77 e B u plain shape p g =
-      let h = as-parts rd n c d Γ few 77 (bareParts rd n) (constantᵗ e ∷ u ∷ []) (allᵗ B) p g in
-      let q : u ≡ B ⟨ constantᵗ e ⟩ = same-equal u (B ⟨ constantᵗ e ⟩) (both-parts _ _ (h .passed .fits) .1) in
+      let h = as-parts rd n c d Γ few 77 (bareParts rd n) (constantᵇ e ∷ u ∷ []) (∀ᵇ B) p g in
+      let q : u ≡ B ⟨ constantᵇ e ⟩ = same-equal u (B ⟨ constantᵇ e ⟩) (both-parts _ _ (h .passed .fits) .1) in
       case77 rd n c d Γ few e B (subst Plain q plain) (subst (λ (t : Tree). hasShape formula t ≡ true) q shape)
-      (as-parts rd n c d Γ few 77 (constantᵗ e ∷ u ∷ []) (constantᵗ e ∷ B ⟨ constantᵗ e ⟩ ∷ []) (allᵗ B) (ap (λ (t : Tree). constantᵗ e ∷ t ∷ []) q) h)
+      (as-parts rd n c d Γ few 77 (constantᵇ e ∷ u ∷ []) (constantᵇ e ∷ B ⟨ constantᵇ e ⟩ ∷ []) (∀ᵇ B) (ap (λ (t : Tree). constantᵇ e ∷ t ∷ []) q) h)
 
   -- the goal is B with the second part in place of index 0
-  part78 : (B E G : Tree) → Plain (allᵗ B) → hasShape term E ≡ true → bareParts rd n ≡ allᵗ B ∷ E ∷ [] →
+  part78 : (B E G : Tree) → Plain (∀ᵇ B) → hasShape term E ≡ true → bareParts rd n ≡ ∀ᵇ B ∷ E ∷ [] →
       Good rd n c d Γ 78 (bareParts rd n) G → Derives rd Γ G d n (suc c)
   unfolding row ifEq secondOf
   part78 B E G plain shape p g =
-      let h = as-parts rd n c d Γ few 78 (bareParts rd n) (allᵗ B ∷ E ∷ []) G p g in
+      let h = as-parts rd n c d Γ few 78 (bareParts rd n) (∀ᵇ B ∷ E ∷ []) G p g in
       let q : G ≡ B ⟨ E ⟩ = same-equal G (B ⟨ E ⟩) (both-parts _ _ (h .passed .fits) .1) in
-      back rd n c d Γ few G (B ⟨ E ⟩) q (case78 rd n c d Γ few B E plain shape (as-goal rd n c d Γ few 78 (allᵗ B ∷ E ∷ []) G (B ⟨ E ⟩) q h))
+      back rd n c d Γ few G (B ⟨ E ⟩) q (case78 rd n c d Γ few B E plain shape (as-goal rd n c d Γ few 78 (∀ᵇ B ∷ E ∷ []) G (B ⟨ E ⟩) q h))
 
   -- the third part is B with E in place of index 0, the goal B with F
   part79 : (B E F u G : Tree) → Plain (E =ᵗ F) → Plain u → hasShape formula B ≡ true → hasShape formula u ≡ true →
@@ -88,7 +91,8 @@ module _ (rd : Reader) (n c d : ℕ) (Γ : List Tree) (few : length Γ ≤ 2048)
       let fits = both-parts _ _ (both-parts _ _ (both-parts _ _ (h .passed .fits) .1) .1) in
       let q : u ≡ B ⟨ E ⟩ = same-equal u (B ⟨ E ⟩) (fits .0) in
       let r : G ≡ B ⟨ F ⟩ = same-equal G (B ⟨ F ⟩) (fits .1) in
-      back rd n c d Γ few G (B ⟨ F ⟩) r (case79 rd n c d Γ few B E F equal (subst Plain q plain) shape (subst (λ (t : Tree). hasShape formula t ≡ true) q formed)
+      back rd n c d Γ few G (B ⟨ F ⟩) r (case79 rd n c d Γ few B E F equal
+      (subst Plain q plain) shape (subst (λ (t : Tree). hasShape formula t ≡ true) q formed)
       (as-goal rd n c d Γ few 79 (B ∷ E =ᵗ F ∷ B ⟨ E ⟩ ∷ []) G (B ⟨ F ⟩) r
       (as-parts rd n c d Γ few 79 (B ∷ E =ᵗ F ∷ u ∷ []) (B ∷ E =ᵗ F ∷ B ⟨ E ⟩ ∷ []) G (ap (λ (t : Tree). B ∷ E =ᵗ F ∷ t ∷ []) q) h)))
 
@@ -114,7 +118,9 @@ module _ (rd : Reader) (n c d : ℕ) (Γ : List Tree) (few : length Γ ≤ 2048)
 
     at67 : Good rd n c d Γ 67 (bareParts rd n) G → Derives rd Γ G d n (suc c)
     unfolding row ifEq
-    at67 g = let s = one-part formula (g .passed .shapes) in case67 rd n c d Γ few (s .0) G (s .3) goal (s .2) (as-parts rd n c d Γ few 67 (bareParts rd n) (s .0 ∷ []) G (s .1) g)
+    at67 g =
+        let s = one-part formula (g .passed .shapes) in
+        case67 rd n c d Γ few (s .0) G (s .3) goal (s .2) (as-parts rd n c d Γ few 67 (bareParts rd n) (s .0 ∷ []) G (s .1) g)
 
     at68 : Good rd n c d Γ 68 (bareParts rd n) G → Derives rd Γ G d n (suc c)
     unfolding row ifEq hasShape
@@ -122,7 +128,8 @@ module _ (rd : Reader) (n c d : ℕ) (Γ : List Tree) (few : length Γ ≤ 2048)
         let f = both-parts _ _ (goal-in (negated falsity) G (g .passed .goalShapes)) in
         let e : G ≡ ¬ᵗ ⊥ᵗ =
         plain-not G goal (eqb-true _ _ (f .0)) ∙ ap (λ (t : Tree). ¬ᵗ t) (plain-false (firstOf G) (plain-first G goal) (eqb-true _ _ (f .1))) in
-        back rd n c d Γ few G (¬ᵗ ⊥ᵗ) e (case68 rd n c d Γ few (as-goal rd n c d Γ few 68 [] G (¬ᵗ ⊥ᵗ) e (as-parts rd n c d Γ few 68 (bareParts rd n) [] G (shapes-0 _ (g .passed .shapes)) g)))
+        back rd n c d Γ few G (¬ᵗ ⊥ᵗ) e (case68 rd n c d Γ few
+        (as-goal rd n c d Γ few 68 [] G (¬ᵗ ⊥ᵗ) e (as-parts rd n c d Γ few 68 (bareParts rd n) [] G (shapes-0 _ (g .passed .shapes)) g)))
 
     at69 : Good rd n c d Γ 69 (bareParts rd n) G → Derives rd Γ G d n (suc c)
     unfolding row ifEq
@@ -168,14 +175,17 @@ module _ (rd : Reader) (n c d : ℕ) (Γ : List Tree) (few : length Γ ≤ 2048)
 
     at75 : Good rd n c d Γ 75 (bareParts rd n) G → Derives rd Γ G d n (suc c)
     unfolding row ifEq
-    at75 g = let s = one-part formula (g .passed .shapes) in case75 rd n c d Γ few (s .0) G (s .3) (s .2) (as-parts rd n c d Γ few 75 (bareParts rd n) (s .0 ∷ []) G (s .1) g)
+    at75 g =
+        let s = one-part formula (g .passed .shapes) in
+        case75 rd n c d Γ few (s .0) G (s .3) (s .2) (as-parts rd n c d Γ few 75 (bareParts rd n) (s .0 ∷ []) G (s .1) g)
 
     at76 : Good rd n c d Γ 76 (bareParts rd n) G → Derives rd Γ G d n (suc c)
     unfolding row ifEq
     at76 g =
         let s = one-part formula (g .passed .shapes) in
         let e = plain-not G goal (of-kind 18 G (goal-in negation G (g .passed .goalShapes))) in
-        back rd n c d Γ few G _ e (case76 rd n c d Γ few (s .0) (firstOf G) (s .3) (s .2) (as-goal rd n c d Γ few 76 (s .0 ∷ []) G _ e (as-parts rd n c d Γ few 76 (bareParts rd n) (s .0 ∷ []) G (s .1) g)))
+        back rd n c d Γ few G _ e (case76 rd n c d Γ few (s .0) (firstOf G) (s .3) (s .2)
+        (as-goal rd n c d Γ few 76 (s .0 ∷ []) G _ e (as-parts rd n c d Γ few 76 (bareParts rd n) (s .0 ∷ []) G (s .1) g)))
 
     at77 : Good rd n c d Γ 77 (bareParts rd n) G → Derives rd Γ G d n (suc c)
     unfolding row ifEq
@@ -212,9 +222,10 @@ module _ (rd : Reader) (n c d : ℕ) (Γ : List Tree) (few : length Γ ≤ 2048)
     unfolding row ifEq
     at80 g =
         let e = plain-equal G goal (of-kind 20 G (goal-in equation G (g .passed .goalShapes))) in
-        back rd n c d Γ few G _ e (goal80 (firstOf G) (secondOf G) (as-goal rd n c d Γ few 80 [] G _ e (as-parts rd n c d Γ few 80 (bareParts rd n) [] G (shapes-0 _ (g .passed .shapes)) g)))
+        back rd n c d Γ few G _ e (goal80 (firstOf G) (secondOf G)
+        (as-goal rd n c d Γ few 80 [] G _ e (as-parts rd n c d Γ few 80 (bareParts rd n) [] G (shapes-0 _ (g .passed .shapes)) g)))
 
--- one of a chain of kinds
+-- a choice by kind that fits: the kind is l, or the rest fits
 pick : (k l : ℕ) (x y : Row) → ifEq k l x y .fits ≡ true → (k ≡ l) ⊎ (y .fits ≡ true)
 unfolding ifEq
 pick k l x y h = go (eqb k l) refl h
@@ -250,7 +261,7 @@ module _ (rd : Reader) where
       (pick _ _ _ _ (g .passed .fits))
 
   -- what the walk asks of a claim about nodes
-  pub closed : Closed rd (nodeFault rd) (premiseState rd) (Claim rd)
+  pub closed : Inherited rd (nodeFault rd) (premiseState rd) (Claim rd)
   unfolding nodeFault premiseState rowOf
   closed st n k pos h each within =
       let passed = no-fault rd n st (rowOf rd st n) h in

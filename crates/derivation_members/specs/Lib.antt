@@ -1,4 +1,2 @@
-pub mod Listed
 pub mod Members
 pub mod Needs
-pub mod Filled

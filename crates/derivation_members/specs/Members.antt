@@ -1,21 +1,19 @@
 -- Tests on every member of a sequent, by keys, and the ways out of the code that makes them.
-use Prim.Native.Nat.{ℕ, zero, suc, _+_, _*_, _-_, _<_, _≤_}
+use Prim.Native.Nat.{ℕ, suc, _+_, _*_, _-_, _<_, _≤_}
 use mathlib.Core.Path.{_≡_, refl, sym, ap, _∙_}
 use mathlib.Core.List.{List, [], _∷_, _++_}
 use mathlib.Core.Bool.{Bool, true, false, not}
 use lib.Dec.{eqb}
-use lib.ListN.{getD, length}
+use lib.ListN.{length}
 use native.Mathlib.Omega.{arith}
-use native.Mathlib.Numerals.{add-one}
-use borrow.Author.Tests.{eq-eqb, ne-eqb, not-true, not-false}
+use borrow.Author.Tests.{ne-eqb, not-true, not-false}
 use Rattle.reader.specs.Words.{Reader}
 use Rattle.reader.specs.Tests.{both, every, ifEq, ifTrue}
 use Rattle.reader.specs.Trees.{Tree, same}
-use Rattle.derivation_rules.specs.Erase.{bareTree}
-use Rattle.derivation_rules.specs.Check.{member}
-use Rattle.derivation_trees.specs.Keys.{decoded, Normal, Stands, key-same}
-use Rattle.derivation_trees.specs.Table.{Table, KeyOf}
-use Rattle.derivation_frames.specs.Frames.{frameWord, startAt, entryAt, addedBy, addedFrom, chainTrees, membersAt, Framed}
+use Rattle.reader.specs.Members.{member}
+use Rattle.derivation_trees.specs.Keys.{decoded, Normal, key-same}
+use Rattle.derivation_trees.specs.Table.{KeyOf}
+use Rattle.derivation_frames.specs.Frames.{startAt, entryAt, addedBy, addedFrom, chainTrees, membersAt, Framed}
 
 -- t is what the key stands for, or is not, as wanted
 unfoldable pub agrees : Reader → ℕ → Bool → Tree → Bool

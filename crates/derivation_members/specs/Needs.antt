@@ -1,23 +1,25 @@
 -- What a rule asks of the members, and the ways out of the code that tests it.
-use Prim.Native.Nat.{ℕ, zero, suc, _+_, _-_, _<_, _≤_}
+use Prim.Native.Nat.{ℕ, zero, suc, _-_, _<_, _≤_}
 use mathlib.Core.Path.{_≡_, refl, sym, ap, _∙_}
-use mathlib.Core.List.{List, [], _∷_, _++_}
-use mathlib.Core.Bool.{Bool, true, false, not}
+use mathlib.Core.List.{List, [], _∷_}
+use mathlib.Core.Bool.{Bool, true, false}
 use lib.Dec.{eqb}
-use lib.ListN.{getD, length}
+use lib.ListN.{length}
 use native.Mathlib.Omega.{arith}
-use borrow.Author.Tests.{eq-eqb, ne-eqb, eqb-true, eqb-false}
+use borrow.Author.Tests.{ne-eqb, eqb-true, eqb-false}
 use Rattle.reader.specs.Words.{Reader}
-use Rattle.reader.specs.Tests.{every, ifEq, ifTrue, eq-yes, eq-no}
+use Rattle.reader.specs.Tests.{every, ifEq, ifTrue}
+use Rattle.reader.specs.TestLaws.{eq-yes, eq-no}
 use Rattle.reader.specs.Trees.{Tree, lower, same}
 use Rattle.reader.specs.Chains.{parts}
-use Rattle.derivation_rules.specs.Erase.{bareTree, bareParts}
-use Rattle.derivation_rules.specs.Rules.{Sequent, Row, row, noRow}
-use Rattle.derivation_rules.specs.Check.{member, needsMet, noOther}
-use Rattle.derivation_trees.specs.Keys.{negationsOf, decoded, Normal, Stands}
+use Rattle.derivation_rules.specs.Erase.{bareParts}
+use Rattle.derivation_rules.specs.Rules.{State, row}
+use Rattle.derivation_rules.specs.Check.{needsMet, noOther}
+use Rattle.reader.specs.Members.{member}
+use Rattle.derivation_trees.specs.Keys.{decoded, Normal}
 use Rattle.derivation_trees.specs.Table.{Table}
 use Rattle.derivation_tables.specs.RowLaws.{row-none, by-rule}
-use Rattle.derivation_frames.specs.Frames.{goalAt, chainTrees, membersAt, Framed}
+use Rattle.derivation_frames.specs.Frames.{goalAt, chainTrees, Framed}
 use Rattle.derivation_tables.specs.Tables.{column, oneOf, formTree, needs-are}
 use Rattle.derivation_forms.specs.Forms.{Given, Formed}
 use Rattle.derivation_members.specs.Members.{agrees}
@@ -56,7 +58,7 @@ once : (b : Bool) → b ≡ elim b as (λ x. Bool) [ true ↦ true | false ↦ f
 once true = refl
 once false = refl
 
-needs-65 : (ps : List Tree) (st : Sequent) → row 65 ps st .needs ≡ ps
+needs-65 : (ps : List Tree) (st : State) → row 65 ps st .needs ≡ ps
 unfolding row ifEq
 needs-65 ps st = refl
 
@@ -71,7 +73,7 @@ need-one Γ ps goal zero = refl
 need-one Γ ps goal (suc form) = simp (ifEq, ne-eqb (suc form) 0 (λ z. omega arith)) (once (member (formTree ps goal (suc form)) Γ))
 
 -- the rows say the same
-pub needs-held : (rd : Reader) (n : ℕ) (st : Sequent) → needsHeld rd (st .members) (st .goal) n ≡ needsMet (st .members) (row (rd n 0) (bareParts rd n) st .needs)
+pub needs-held : (rd : Reader) (n : ℕ) (st : State) → needsHeld rd (st .members) (st .goal) n ≡ needsMet (st .members) (row (rd n 0) (bareParts rd n) st .needs)
 unfolding needsHeld needsMet
 needs-held rd n st = go (rd n 0) (bareParts rd n)
   where
@@ -92,11 +94,11 @@ needs-held rd n st = go (rd n 0) (bareParts rd n)
             sym (eq-no k 65 _ _ (every (λ t. member t (st .members)) (row k ps st .needs)) h
             (rw (needs-are ps st k h) (sym (need-one (st .members) ps (st .goal) (column k 3)))))
 
-only-64 : (ps : List Tree) (st : Sequent) → row 64 ps st .onlyGoal ≡ true
+only-64 : (ps : List Tree) (st : State) → row 64 ps st .onlyGoal ≡ true
 unfolding row ifEq
 only-64 ps st = refl
 
-only-other : (ps : List Tree) (st : Sequent) (k : ℕ) → (k ≡ 64 → ⊥) → row k ps st .onlyGoal ≡ false
+only-other : (ps : List Tree) (st : State) (k : ℕ) → (k ≡ 64 → ⊥) → row k ps st .onlyGoal ≡ false
 unfolding row ifEq
 only-other ps st =
     by-rule (λ k. (k ≡ 64 → ⊥) → row k ps st .onlyGoal ≡ false)
@@ -104,7 +106,7 @@ only-other ps st =
     (λ h. refl) (λ h. refl) (λ h. refl) (λ h. refl) (λ h. refl) (λ h. refl) (λ h. refl) (λ h. refl)
     (λ k other h. rw (row-none k ps st other) refl)
 
-pub only-goals : (rd : Reader) (n : ℕ) (ps : List Tree) (st : Sequent) → onlyGoals rd n (st .members) (st .goal) ≡ noOther (row (rd n 0) ps st .onlyGoal) st
+pub only-goals : (rd : Reader) (n : ℕ) (ps : List Tree) (st : State) → onlyGoals rd n (st .members) (st .goal) ≡ noOther (row (rd n 0) ps st .onlyGoal) st
 unfolding onlyGoals noOther ifEq ifTrue
 only-goals rd n ps st = by (rd n 0) (eqb (rd n 0) 64) refl
   where

@@ -1,5 +1,2 @@
-// What a rule needs in the sequent: refusal 14.
-pub mod filled;
-pub mod listed;
+// Is a tree among the sequent's members, or the only one?
 pub mod members;
-pub mod needs;

@@ -4,13 +4,12 @@ use derivation_trees::keys;
 use reader::trees;
 ghost use mathlib.Core.Path.{_≡_};
 ghost use Prim.Native.Nat.{suc, _-_, _<_};
-ghost use mathlib.Core.Bool.{Bool};
 ghost use lib.ListN.{length};
 ghost use Rattle.reader.specs.Words.{word};
 ghost use Rattle.reader.specs.Tests.{every};
 ghost use Rattle.derivation_trees.specs.Keys.{decoded, Normal};
 ghost use Rattle.derivation_trees.specs.Table.{Table};
-ghost use Rattle.derivation_rules.specs.Check.{member};
+ghost use Rattle.reader.specs.Members.{member};
 ghost use Rattle.derivation_frames.specs.Frames.{startAt, addedBy, addedFrom, chainTrees, membersAt, Framed};
 ghost use Rattle.derivation_members.specs.Members.{agrees};
 

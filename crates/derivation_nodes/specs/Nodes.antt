@@ -1,28 +1,28 @@
 -- A node's tests in the order in which the code makes them, and that they are the definition's.
-use Prim.Native.Nat.{ℕ, zero, suc, _+_, _*_, _<_, _≤_}
-use mathlib.Core.Path.{_≡_, refl, sym, ap, _∙_}
-use mathlib.Core.List.{List, [], _∷_}
+use Prim.Native.Nat.{ℕ, _<_, _≤_}
+use mathlib.Core.Path.{_≡_, refl, _∙_}
+use mathlib.Core.List.{List}
 use mathlib.Core.Bool.{Bool, true, false}
-use lib.Dec.{eqb, leb}
+use lib.Dec.{leb}
 use lib.ListN.{length}
 use native.Mathlib.Omega.{arith}
 use borrow.Author.Tests.{le-leb, lt-leb}
 use Rattle.reader.specs.Words.{Reader}
-use Rattle.reader.specs.Tests.{both, demand, orElse, every, ifEq, ifLt}
+use Rattle.reader.specs.Tests.{both, demand, orElse, ifLt}
 use Rattle.reader.specs.Trees.{Tree}
-use Rattle.reader.specs.Shapes.{haveShapes}
 use Rattle.derivation_rules.specs.Erase.{bareParts}
-use Rattle.derivation_rules.specs.Rules.{Sequent, Row, row}
-use Rattle.derivation_rules.specs.Check.{goalFormed, premisesFit, needsMet, noOther, isFresh, hasRoom, depthFits, rowFault, rowOf, nodeFault}
+use Rattle.derivation_rules.specs.Rules.{State}
+use Rattle.derivation_rules.specs.Check.{depthFits, rowFault, rowOf, nodeFault}
+use Rattle.reader.specs.Members.{premisesFit}
 use Rattle.derivation_trees.specs.Keys.{decoded}
 use Rattle.derivation_replacement.specs.Replaced.{Tables}
 use Rattle.derivation_tables.specs.RowLaws.{by-rule}
 use Rattle.derivation_frames.specs.Frames.{goalAt, countAt, membersAt, stateOf, Framed}
 use Rattle.derivation_tables.specs.Tables.{column, column-none, count-is}
 use Rattle.derivation_forms.specs.Formed.{partsFormed, goalShaped, parts-formed, goal-shaped}
-use Rattle.derivation_members.specs.Needs.{At, needsHeld, onlyGoals, needs-held, only-goals}
+use Rattle.derivation_members.specs.Needs.{needsHeld, onlyGoals, needs-held, only-goals}
 use Rattle.derivation_fits.specs.Fits.{nodeFits, node-fits}
-use Rattle.derivation_fits.specs.Fresh.{nodeFresh, node-fresh}
+use Rattle.derivation_fresh.specs.Fresh.{nodeFresh, node-fresh}
 use Rattle.derivation_nodes.specs.Rooms.{nodeRoom, node-room}
 
 -- the tables beside the frames
@@ -31,24 +31,24 @@ pub record Ready (rd : Reader) (keys reaches marks : List ℕ) : Type 0 where
   pub marks-long : length keys ≤ length marks
 
 -- the goal's form, the premises, as node n's rule has them
-unfoldable pub goalFits : Reader → Tree → ℕ → Bool
-goalFits rd goal n = goalShaped (rd n 0) goal
+unfoldable pub goalShapedAt : Reader → Tree → ℕ → Bool
+goalShapedAt rd goal n = goalShaped (rd n 0) goal
 
 unfoldable pub premisesAt : Reader → ℕ → Bool
-premisesAt rd n = premisesFit rd n (column (rd n 0) 2)
+premisesAt rd n = premisesFit 2 rd n (column (rd n 0) 2)
 
 -- what must be among the members is, and what must not is not
 unfoldable pub membersFit : Reader → List Tree → Tree → ℕ → Bool
 membersFit rd Γ goal n = both (needsHeld rd Γ goal n) (onlyGoals rd n Γ goal)
 
 -- refusals 13 and 14, and 15 to 18
-unfoldable pub formFault : Reader → Sequent → ℕ → ℕ
+unfoldable pub formFault : Reader → State → ℕ → ℕ
 formFault rd st n =
     demand (partsFormed rd n) 13
-    (demand (goalFits rd (st .goal) n) 13
+    (demand (goalShapedAt rd (st .goal) n) 13
     (demand (premisesAt rd n) 13 (demand (membersFit rd (st .members) (st .goal) n) 14 0)))
 
-unfoldable pub fitFault : Reader → Sequent → ℕ → ℕ
+unfoldable pub fitFault : Reader → State → ℕ → ℕ
 fitFault rd st n =
     demand (nodeFits rd (st .goal) n) 15
     (demand (nodeFresh rd (st .members) (st .goal) n) 16 (demand (nodeRoom rd (length (st .members)) n) 17 (demand (leb (st .depth) 8192) 18 0)))
@@ -64,10 +64,10 @@ in-order true true false d e rest = refl
 in-order true false c d e rest = refl
 in-order false b c d e rest = refl
 
-both-faults : (rd : Reader) (st : Sequent) (n : ℕ) → orElse (formFault rd st n) (fitFault rd st n) ≡ nodeFault rd st n
-unfolding formFault membersFit nodeFault rowFault rowOf goalFits premisesAt fitFault depthFits
+both-faults : (rd : Reader) (st : State) (n : ℕ) → orElse (formFault rd st n) (fitFault rd st n) ≡ nodeFault rd st n
+unfolding formFault membersFit nodeFault rowFault rowOf goalShapedAt premisesAt fitFault depthFits
 both-faults rd st n =
-    in-order (partsFormed rd n) (goalFits rd (st .goal) n) (premisesAt rd n) (needsHeld rd (st .members) (st .goal) n) (onlyGoals rd n (st .members) (st .goal)) (fitFault rd st n)
+    in-order (partsFormed rd n) (goalShapedAt rd (st .goal) n) (premisesAt rd n) (needsHeld rd (st .members) (st .goal) n) (onlyGoals rd n (st .members) (st .goal)) (fitFault rd st n)
     ∙ rw (
       parts-formed rd n st,
       goal-shaped (rd n 0) (bareParts rd n) st (st .goal),
@@ -79,16 +79,16 @@ both-faults rd st n =
       node-room rd n st,
     ) refl
 
-pub node-is : (rd : Reader) (st : Sequent) (n r : ℕ) → r ≡ orElse (formFault rd st n) (fitFault rd st n) → r ≡ nodeFault rd st n
+pub node-is : (rd : Reader) (st : State) (n r : ℕ) → r ≡ orElse (formFault rd st n) (fitFault rd st n) → r ≡ nodeFault rd st n
 node-is rd st n r e = e ∙ both-faults rd st n
 
 -- The ways out of the code that looks at the frame.
 pub goal-fits : (rd : Reader) (frames : List ℕ) (d n k goal : ℕ) (r : Bool) → k ≡ rd n 0 → goal ≡ goalAt frames d → r ≡ goalShaped k (decoded rd goal) →
-    r ≡ goalFits rd (decoded rd (goalAt frames d)) n
-unfolding goalFits
+    r ≡ goalShapedAt rd (decoded rd (goalAt frames d)) n
+unfolding goalShapedAt
 goal-fits rd frames d n k goal r ek eg e = rw (← ek, ← eg) e
 
-pub premises-at : (rd : Reader) (n k count : ℕ) (r : Bool) → k ≡ rd n 0 → count ≡ column k 2 → r ≡ premisesFit rd n count → r ≡ premisesAt rd n
+pub premises-at : (rd : Reader) (n k count : ℕ) (r : Bool) → k ≡ rd n 0 → count ≡ column k 2 → r ≡ premisesFit 2 rd n count → r ≡ premisesAt rd n
 unfolding premisesAt
 premises-at rd n k count r ek ec e = rw (← ek, ← ec) e
 
@@ -116,7 +116,7 @@ room-at rd size frames d n h r here eh e = rw (← here .count, ← eh) e
 -- The faults at the frame's sequent.
 module _ (rd : Reader) (frames : List ℕ) (d n r : ℕ) where
   pub form-at : r ≡ demand (partsFormed rd n) 13
-      (demand (goalFits rd (decoded rd (goalAt frames d)) n) 13
+      (demand (goalShapedAt rd (decoded rd (goalAt frames d)) n) 13
       (demand (premisesAt rd n) 13 (demand (membersFit rd (membersAt rd frames d) (decoded rd (goalAt frames d)) n) 14 0))) → r ≡ formFault rd (stateOf rd frames d) n
   unfolding formFault stateOf
   form-at e = e

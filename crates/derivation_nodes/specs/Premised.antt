@@ -1,34 +1,34 @@
 -- What a node that passes its tests hands to premise b, as a frame.
 use Prim.Native.Nat.{ℕ, zero, suc, _+_, _*_, _-_, _<_, _≤_}
 use mathlib.Core.Path.{_≡_, refl, sym, ap, _∙_}
-use mathlib.Core.List.{List, [], _∷_, _++_, map, append-nil}
+use mathlib.Core.List.{List, [], _∷_, _++_, append-nil}
 use mathlib.Core.Bool.{Bool, true, false, false≢true}
-use lib.Dec.{eqb, leb}
+use lib.Dec.{eqb}
 use lib.ListN.{getD, length, length-append, length-map}
 use native.Mathlib.Omega.{arith}
-use borrow.Author.Tests.{eq-eqb, ne-eqb, eqb-true, eqb-false, leb-true}
+use borrow.Author.Tests.{eqb-true, eqb-false, leb-true}
 use Rattle.reader.specs.Words.{Reader}
-use Rattle.reader.specs.Tests.{both, demand, every, ifEq, ifLt, eq-yes, eq-no}
-use Rattle.reader.specs.Kinds.{isRule}
+use Rattle.reader.specs.Tests.{demand, every, ifEq}
+use Rattle.reader.specs.TestLaws.{eq-yes, eq-no}
 use Rattle.reader.specs.Trees.{Tree, lower}
 use Rattle.reader.specs.Chains.{linked, items, parts, premises}
-use Rattle.reader.specs.Laws.{lower-below}
+use Rattle.reader.specs.TreeLaws.{lower-below}
 use Rattle.reader.specs.ChainLaws.{linked-length, linked-none}
-use Rattle.reader.specs.Shapes.{haveShapes}
 use Rattle.derivation_rules.specs.Erase.{bareTree, bareParts}
-use Rattle.derivation_rules.specs.Rules.{Sequent, sequent, Row, row, premise}
-use Rattle.derivation_rules.specs.Check.{goalFormed, premisesFit, needsMet, noOther, isFresh, hasRoom, depthFits, rowFault, rowOf, nodeFault, premiseState}
-use Rattle.derivation_trees.specs.Keys.{negationsOf, decoded, Normal, Stands}
-use Rattle.derivation_frames.specs.Frames.{startAt, goalAt, entryAt, countAt, addedBy, chainTrees, membersAt, stateOf, Framed, Kept, Written}
+use Rattle.derivation_rules.specs.Rules.{State, stateAt, row, premise}
+use Rattle.derivation_rules.specs.Check.{fewMembers, depthFits, rowFault, rowOf, nodeFault, premiseState}
+use Rattle.reader.specs.Members.{premisesFit}
+use Rattle.derivation_trees.specs.Keys.{negationsOf, decoded, Normal}
+use Rattle.derivation_frames.specs.Frames.{startAt, goalAt, countAt, addedBy, chainTrees, membersAt, stateOf, Framed, Kept, Written}
 use Rattle.derivation_frames.specs.Pushed.{written-kept, members-added, framed-added, members-set, framed-set}
 use Rattle.derivation_tables.specs.Tables.{column, grown, formTree, premisesFrom, premises-are}
 use Rattle.derivation_forms.specs.Forms.{Given, Formed, lower-most}
 use Rattle.derivation_members.specs.Needs.{At}
 
 -- what the walk takes from a node's tests
-pub record Passed (rd : Reader) (st : Sequent) (n : ℕ) : Type 0 where
-  pub nodes : premisesFit rd n (length (rowOf rd st n .premises)) ≡ true
-  pub room : every hasRoom (rowOf rd st n .premises) ≡ true
+pub record Passed (rd : Reader) (st : State) (n : ℕ) : Type 0 where
+  pub nodes : premisesFit 2 rd n (length (rowOf rd st n .premises)) ≡ true
+  pub room : every fewMembers (rowOf rd st n .premises) ≡ true
   pub deep : st .depth ≤ 8192
 
 demand-in : (a : Bool) (n rest : ℕ) → demand a (suc n) rest ≡ 0 → (a ≡ true) × (rest ≡ 0)
@@ -36,7 +36,7 @@ unfolding demand
 demand-in true n rest h = (refl, h)
 demand-in false n rest h = absurd (omega arith)
 
-pub passed : (rd : Reader) (st : Sequent) (n why : ℕ) → why ≡ nodeFault rd st n → why ≡ 0 → Passed rd st n
+pub passed : (rd : Reader) (st : State) (n why : ℕ) → why ≡ nodeFault rd st n → why ≡ 0 → Passed rd st n
 unfolding nodeFault rowFault depthFits
 passed rd st n why e h =
     let a = demand-in _ 12 _ (sym e ∙ h) in
@@ -51,7 +51,7 @@ passed rd st n why e h =
     record { nodes = c .0; room = j .0; deep = leb-true (st .depth) 8192 (k .0) }
 
 -- premise b is there
-unfoldable pub premiseCount : Reader → Sequent → ℕ → ℕ
+unfoldable pub premiseCount : Reader → State → ℕ → ℕ
 premiseCount rd st n = length (rowOf rd st n .premises)
 
 -- the frames after a premise's is written: only that one changed
@@ -76,14 +76,14 @@ every-one test (y ∷ ys) (suc b) x h p = every-one test ys b x (go (test y) h) 
     go true q = q
     go false q = absurd (false≢true q)
 
-pub premise-room : (rd : Reader) (st : Sequent) (n b : ℕ) → Passed rd st n → b < premiseCount rd st n → length (premiseState rd st n b .members) ≤ 2048
-unfolding premiseState premiseCount hasRoom
+pub premise-room : (rd : Reader) (st : State) (n b : ℕ) → Passed rd st n → b < premiseCount rd st n → length (premiseState rd st n b .members) ≤ 2048
+unfolding premiseState premiseCount fewMembers
 premise-room rd st n b pass p =
-    leb-true (length (premiseState rd st n b .members)) 2048 (every-one hasRoom (rowOf rd st n .premises) b st (pass .room) p)
+    leb-true (length (premiseState rd st n b .members)) 2048 (every-one fewMembers (rowOf rd st n .premises) b st (pass .room) p)
 
 -- a premise by its forms
-module _ (ps : List Tree) (st : Sequent) where
-  first-of : (g e : ℕ) (rest : List Sequent) → 0 < length (premisesFrom ps st g e rest) →
+module _ (ps : List Tree) (st : State) where
+  first-of : (g e : ℕ) (rest : List State) → 0 < length (premisesFrom ps st g e rest) →
       premisesFrom ps st g e rest ≡ premise st (grown (st .members) ps (st .goal) e) (formTree ps (st .goal) g) ∷ rest
   unfolding premisesFrom
   first-of g e rest h = by (eqb g 0) refl
@@ -97,7 +97,7 @@ module _ (ps : List Tree) (st : Sequent) where
           absurd (omega arith)
       by false q = sym (eq-no g 0 _ _ (premise st (grown (st .members) ps (st .goal) e) (formTree ps (st .goal) g) ∷ rest) (eqb-false g 0 q) refl)
 
-  most-of : (g e : ℕ) (rest : List Sequent) → length (premisesFrom ps st g e rest) ≤ suc (length rest)
+  most-of : (g e : ℕ) (rest : List State) → length (premisesFrom ps st g e rest) ≤ suc (length rest)
   unfolding premisesFrom
   most-of g e rest = by (eqb g 0) refl
     where
@@ -134,22 +134,22 @@ module _ (ps : List Tree) (st : Sequent) where
   by-forms k (suc (suc b)) other h = absurd (omega (arith, two-most k other))
 
 -- the number of premises of a rule but BR2 is at most two
-pub premise-low : (rd : Reader) (st : Sequent) (n k b : ℕ) → k ≡ rd n 0 → (k ≡ 65 → ⊥) → b < premiseCount rd st n → b < 2
+pub premise-low : (rd : Reader) (st : State) (n k b : ℕ) → k ≡ rd n 0 → (k ≡ 65 → ⊥) → b < premiseCount rd st n → b < 2
 unfolding premiseCount rowOf
 premise-low rd st n k b ek other h = omega (arith, two-most (bareParts rd n) st (rd n 0) (λ z. other (ek ∙ z)))
 
-premise-is : (rd : Reader) (st : Sequent) (n k b : ℕ) → k ≡ rd n 0 → (k ≡ 65 → ⊥) → b < premiseCount rd st n →
+premise-is : (rd : Reader) (st : State) (n k b : ℕ) → k ≡ rd n 0 → (k ≡ 65 → ⊥) → b < premiseCount rd st n →
     premiseState rd st n b ≡ premise st (grown (st .members) (bareParts rd n) (st .goal) (column k (5 + 2 * b))) (formTree (bareParts rd n) (st .goal) (column k (4 + 2 * b)))
 unfolding premiseCount rowOf premiseState
 premise-is rd st n k b ek other h = rw ek (by-forms (bareParts rd n) st (rd n 0) b (λ z. other (ek ∙ z)) h)
 
-premise-65 : (ps : List Tree) (st : Sequent) (b : ℕ) → b < length (row 65 ps st .premises) → getD (row 65 ps st .premises) b st ≡ premise st ps (st .goal)
+premise-65 : (ps : List Tree) (st : State) (b : ℕ) → b < length (row 65 ps st .premises) → getD (row 65 ps st .premises) b st ≡ premise st ps (st .goal)
 unfolding row ifEq
 premise-65 ps st zero h = refl
 premise-65 ps st (suc b) h = absurd (omega arith)
 
 -- a sequent from its parts
-sequent-is : (Γ Δ : List Tree) (P Q : Tree) (d e : ℕ) → Γ ≡ Δ → P ≡ Q → d ≡ e → sequent Γ P d ≡ sequent Δ Q e
+sequent-is : (Γ Δ : List Tree) (P Q : Tree) (d e : ℕ) → Γ ≡ Δ → P ≡ Q → d ≡ e → stateAt Γ P d ≡ stateAt Δ Q e
 sequent-is Γ Δ P Q d e p q r = rw (p, q, r) refl
 
 parts-chain : (rd : Reader) (n c : ℕ) → c ≡ lower rd n 1 → bareParts rd n ≡ chainTrees rd c
@@ -197,7 +197,7 @@ module _ (rd : Reader) (keys : List ℕ) (d n b k goal c count : ℕ) (before af
       few = rw eg (omega (arith, here .framed .few))
 
       size : length (premiseState rd (stateOf rd before d) n b .members) ≡ length (bareParts rd n)
-      size = ap (λ (s : Sequent). length (s .members)) set-state
+      size = ap (λ (s : State). length (s .members)) set-state
 
       small : count ≤ 2048
       small =
@@ -229,7 +229,7 @@ module _ (rd : Reader) (keys : List ℕ) (d n b k goal g key : ℕ) (before : Li
     (pass : Passed rd (stateOf rd before d) n) (low : b < premiseCount rd (stateOf rd before d) n) (ek : k ≡ rd n 0) (other : k ≡ 65 → ⊥)
     (eg : goal ≡ goalAt before d) (ef : g ≡ column k (4 + 2 * b))
     (formed : Formed rd (length keys) goal 1 key (formTree (bareParts rd n) (decoded rd goal) g)) where
-  abbrev st : Sequent
+  abbrev st : State
   st = stateOf rd before d
 
   few : negationsOf key ≤ length keys + d + 1
@@ -247,7 +247,7 @@ module _ (rd : Reader) (keys : List ℕ) (d n b k goal g key : ℕ) (before : Li
     others-room : length Γ ≤ 2048
     others-room =
         let room : length (premiseState rd st n b .members) ≤ 2048 = premise-room rd st n b pass low in
-        let size : length (premiseState rd st n b .members) ≡ length Γ = ap (λ (s : Sequent). length (s .members)) others-state in
+        let size : length (premiseState rd st n b .members) ≡ length Γ = ap (λ (s : State). length (s .members)) others-state in
         omega (arith, room, size)
 
   members-here : st .members ≡ membersAt rd before d

@@ -1,19 +1,21 @@
--- "a premise's sequent over 2,048 members, repeats counted": by the number of members and the table, and the ways out of the code.
-use Prim.Native.Nat.{ℕ, zero, suc, _+_, _-_, _<_, _≤_}
+-- refusal 17: by the number of members and the table, and the ways out of the code.
+use Prim.Native.Nat.{ℕ, _+_, _-_, _≤_}
 use mathlib.Core.Path.{_≡_, refl, sym, ap, _∙_}
-use mathlib.Core.List.{List, [], _∷_, _++_, map}
+use mathlib.Core.List.{List, [], _∷_, _++_}
 use mathlib.Core.Bool.{Bool, true, false}
-use lib.Dec.{eqb, leb}
+use lib.Dec.{leb}
 use lib.ListN.{length, length-append, length-map}
 use native.Mathlib.Omega.{arith}
-use borrow.Author.Tests.{eq-eqb, ne-eqb, eqb-true, eqb-false, leb-true, le-leb, lt-leb}
+use borrow.Author.Tests.{leb-true, le-leb}
 use Rattle.reader.specs.Words.{Reader}
-use Rattle.reader.specs.Tests.{both, every, ifEq, ifLt, eq-yes, eq-no}
+use Rattle.reader.specs.Tests.{every, ifEq, ifLt}
+use Rattle.reader.specs.TestLaws.{eq-yes, eq-no}
 use Rattle.reader.specs.Trees.{Tree, lower, firstOf, ¬ᵗ_}
 use Rattle.reader.specs.Chains.{linked, items, parts}
 use Rattle.derivation_rules.specs.Erase.{bareTree, bareParts}
-use Rattle.derivation_rules.specs.Rules.{Sequent, Row, row, at, noRow}
-use Rattle.derivation_rules.specs.Check.{hasRoom}
+use Rattle.derivation_rules.specs.Rules.{State, row}
+use Rattle.reader.specs.Members.{part}
+use Rattle.derivation_rules.specs.Check.{fewMembers}
 use Rattle.derivation_tables.specs.RowLaws.{row-none, by-rule}
 use Rattle.derivation_tables.specs.Tables.{column, column-none}
 
@@ -45,7 +47,7 @@ one-more h = go (leb (h + 1) 2048) refl
         by true = refl
         by false = refl
 
-module _ (ps : List Tree) (st : Sequent) where
+module _ (ps : List Tree) (st : State) where
   abbrev h : ℕ
   h = length (st .members)
 
@@ -60,14 +62,14 @@ module _ (ps : List Tree) (st : Sequent) where
   two t = twice (leb (length (st .members ++ (t ∷ []))) 2048) ∙ ap (λ (n : ℕ). leb n 2048) (added t)
 
   -- the rows say the same
-  room-rule : (k : ℕ) → every hasRoom (row k ps st .premises) ≡ ifEq k 65 (leb (length ps) 2048) (ifEq (column k 2) 0 true (leb (h + column k 13) 2048))
-  unfolding row ifEq ifLt column every hasRoom
+  room-rule : (k : ℕ) → every fewMembers (row k ps st .premises) ≡ ifEq k 65 (leb (length ps) 2048) (ifEq (column k 2) 0 true (leb (h + column k 13) 2048))
+  unfolding row ifEq ifLt column every fewMembers
   room-rule =
-      by-rule (λ k. every hasRoom (row k ps st .premises) ≡ ifEq k 65 (leb (length ps) 2048) (ifEq (column k 2) 0 true (leb (h + column k 13) 2048)))
+      by-rule (λ k. every fewMembers (row k ps st .premises) ≡ ifEq k 65 (leb (length ps) 2048) (ifEq (column k 2) 0 true (leb (h + column k 13) 2048)))
       refl
       (once (leb (length ps) 2048))
       refl
-      (ap (λ (n : ℕ). elim (leb h 2048) as (λ x. Bool) [ true ↦ elim (leb n 2048) [ true ↦ true | false ↦ false ] | false ↦ false ]) (added (at ps 0)) ∙ one-more h)
+      (ap (λ (n : ℕ). elim (leb h 2048) as (λ x. Bool) [ true ↦ elim (leb n 2048) [ true ↦ true | false ↦ false ] | false ↦ false ]) (added (part ps 0)) ∙ one-more h)
       refl
       (twice (leb h 2048) ∙ none-more)
       (twice (leb h 2048) ∙ none-more)
@@ -84,7 +86,7 @@ module _ (ps : List Tree) (st : Sequent) where
       (λ k other. rw (row-none k ps st other)
       (eq-no k 65 _ _ true (λ z. other 65 (omega arith) (omega arith) z) (eq-yes (column k 2) 0 _ _ true (column-none k 2 other) refl)))
 
-pub node-room : (rd : Reader) (n : ℕ) (st : Sequent) → nodeRoom rd (length (st .members)) n ≡ every hasRoom (row (rd n 0) (bareParts rd n) st .premises)
+pub node-room : (rd : Reader) (n : ℕ) (st : State) → nodeRoom rd (length (st .members)) n ≡ every fewMembers (row (rd n 0) (bareParts rd n) st .premises)
 unfolding nodeRoom
 node-room rd n st = sym (room-rule (bareParts rd n) st (rd n 0))
 

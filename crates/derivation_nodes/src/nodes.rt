@@ -1,10 +1,10 @@
 // The refusal of a node at its depth: 13 to 18, the lower number first.
 use derivation_fits::fits;
-use derivation_fits::fresh;
 use derivation_forms::formed;
 use derivation_forms::premises;
 use derivation_frames::frames;
-use derivation_members::needs;
+use derivation_fresh::fresh;
+use derivation_needs::needs;
 use derivation_tables::tables;
 use reader::chains;
 use reader::trees;
@@ -20,7 +20,7 @@ ghost use Rattle.derivation_frames.specs.Frames.{goalAt, membersAt, stateOf};
 ghost use Rattle.derivation_members.specs.Needs.{At};
 ghost use Rattle.derivation_fits.specs.Fits.{nodeFits};
 ghost use Rattle.derivation_nodes.specs.Rooms.{nodeRoom};
-ghost use Rattle.derivation_nodes.specs.Nodes.{Ready, membersFit, goalFits, premisesAt, formFault, fitFault};
+ghost use Rattle.derivation_nodes.specs.Nodes.{Ready, membersFit, goalShapedAt, premisesAt, formFault, fitFault};
 
 // Has the goal the form that the rule of node n shows?
 fn goal_fits(
@@ -33,7 +33,7 @@ fn goal_fits(
     n: usize,
 ) -> bool
     requires { ⌜ At (word (now obligation) (now second) m) (now keys) (now frames) d n ⌝ }
-    ensures { λ r. ⌜ r ≡ goalFits (word (now (obligation .entry)) (now (second .entry)) m) (decoded (word (now (obligation .entry)) (now (second .entry)) m) (goalAt (now (frames .entry)) d)) n ⌝ }
+    ensures { λ r. ⌜ r ≡ goalShapedAt (word (now (obligation .entry)) (now (second .entry)) m) (decoded (word (now (obligation .entry)) (now (second .entry)) m) (goalAt (now (frames .entry)) d)) n ⌝ }
 {
     let k = words::word_at(obligation, second, m, n, 0);
     let goal = frames::goal_at(frames, d);

@@ -1,5 +1,5 @@
 -- Replacement tested on keys, as one step, and the ways out of the code that tests it.
-use Prim.Native.Nat.{ℕ, zero, suc, _+_, _*_, _<_, _≤_}
+use Prim.Native.Nat.{ℕ, zero, suc, _+_, _<_, _≤_}
 use mathlib.Core.Path.{_≡_, refl, sym, _∙_}
 use mathlib.Core.List.{List}
 use mathlib.Core.Bool.{Bool, true, false, not, false≢true}
@@ -8,7 +8,8 @@ use lib.ListN.{length}
 use native.Mathlib.Omega.{arith}
 use borrow.Author.Tests.{eq-eqb, ne-eqb, eqb-true, eqb-false, not-true, not-false}
 use Rattle.reader.specs.Words.{Reader}
-use Rattle.reader.specs.Tests.{both, ifEq, eq-yes, eq-no}
+use Rattle.reader.specs.Tests.{both, ifEq}
+use Rattle.reader.specs.TestLaws.{eq-yes, eq-no}
 use Rattle.reader.specs.Trees.{Tree, leaf, node, kindOf, atomOf, firstOf, secondOf, thirdOf, sameHead, same}
 use Rattle.reader.specs.Variables.{binders, isIndex, indicesBelow, replaced}
 use Rattle.reader_closedness.specs.Reach.{replaced-node, replaced-closed}

@@ -5,13 +5,13 @@ use mathlib.Core.Bool.{Bool, true}
 use lib.Dec.{eqb}
 use Rattle.reader.specs.Words.{Reader}
 use Rattle.reader.specs.Tests.{ifEq, ifTrue}
-use Rattle.reader.specs.Kinds.{role}
+use Rattle.reader.specs.Kinds.{kinds, typeʳ, typesʳ, role}
 use Rattle.reader.specs.Trees.{Tree, leaf, node, tree, ⊥ᵗ, ¬ᵗ_}
 use Rattle.reader.specs.Chains.{parts}
 
--- word w of a record of kind k names a type, or the chain of own type and type arguments: roles 12 and 16 of the table of records
+-- word w of a record of kind k names a type, or the chain of own type and type arguments
 unfoldable pub isType : ℕ → ℕ → Bool
-isType k w = ifEq (role k w) 12 true (eqb (role k w) 16)
+isType k w = ifEq (role k w) typeʳ true (eqb (role k w) typesʳ)
 
 -- the tree at word w of a record of kind k, unless it is a type
 unfoldable pub untyped : ℕ → ℕ → Tree → Tree
@@ -19,7 +19,7 @@ untyped k w t = ifTrue (isType k w) leaf t
 
 -- one step: a node whose parts x, y and z have no types
 unfoldable pub bare : ℕ → ℕ → Tree → Tree → Tree → Tree
-bare k a x y z = ifEq k 15 (¬ᵗ ⊥ᵗ) (ifEq k 22 y (node k a (untyped k 1 x) (untyped k 2 y) (untyped k 3 z)))
+bare k a x y z = ifEq k (kinds .true) (¬ᵗ ⊥ᵗ) (ifEq k (kinds .forAllTypes) y (node k a (untyped k 1 x) (untyped k 2 y) (untyped k 3 z)))
 
 -- a tree, types removed
 unfoldable pub ⌊_⌋ : Tree → Tree
@@ -33,3 +33,11 @@ bareTree rd i = ⌊ tree rd i ⌋
 -- the parts of node n, types removed
 unfoldable pub bareParts : Reader → ℕ → List Tree
 bareParts rd n = map (bareTree rd) (parts rd n)
+
+-- the constant with record number c, its type removed
+abbrev pub constantᵇ : ℕ → Tree
+constantᵇ c = node (kinds .constant) c leaf leaf leaf
+
+-- ∀, the type of its bound variable removed
+abbrev pub ∀ᵇ : Tree → Tree
+∀ᵇ B = node (kinds .forAll) 0 leaf B leaf

@@ -3,10 +3,12 @@ use mathlib.Core.Path.{_≡_, refl}
 use mathlib.Core.List.{List, [], _∷_, map}
 use Rattle.reader.specs.declared.Answer.{Answer}
 use Rattle.reader.specs.Answers.{answer}
-use Rattle.derivation_rules.specs.Files.{Words, r, bytes, Case, gives, answersOf}
+use Rattle.reader.specs.Examples.{Words, r, bytes, Case, gives, answersOf}
+use Rattle.derivation_rules.specs.Check.{derivationAnswer}
+use Rattle.derivation_rules.specs.Opened.{openDerivations}
 
 abbrev trap : List Words → List Words → Answer → Case
-trap obligation derivation expected = record { obligation = bytes obligation; derivation = bytes derivation; answer = expected }
+trap obligation derivation expected = record { obligation = bytes obligation; second = bytes derivation; answer = expected }
 
 -- goal ∀x·x=x
 abbrev reflexive : List Words
@@ -42,7 +44,7 @@ twoTypes =
     r 2 83 0 0 ∷ r 3 1 0 0 ∷ r 2 84 0 0 ∷ r 3 3 0 0 ∷ r 9 0 2 0 ∷ r 20 5 5 0 ∷ r 19 2 6 0 ∷
     r 9 0 4 0 ∷ r 20 8 8 0 ∷ r 19 4 9 0 ∷ r 18 10 0 0 ∷ r 1 7 0 0 ∷ []
 
--- hypothesis "for all types, ∀x·x=x", goal ∀x·x=x
+-- hypothesis of kind 22, for all types ∀x·x=x, goal ∀x·x=x
 abbrev forAllTypes : List Words
 forAllTypes =
     r 1 12 12 11 ∷
@@ -117,6 +119,6 @@ traps =
     r 1 13 0 0 ∷ r 1 7 0 18 ∷ r 1 12 0 19 ∷ r 79 20 17 0 ∷ [])
     (answer 0 0 0 3) ∷ []
 
-pub traps-hold : answersOf traps ≡ map gives traps
-unfolding answersOf
+pub traps-hold : answersOf derivationAnswer traps ≡ map gives traps
+unfolding openDerivations
 traps-hold = refl

@@ -1,6 +1,6 @@
 -- The rows by kind: what holds of each of the seventeen rules, and of every other kind, holds of all.
 use Prim.Native.Nat.{ℕ, zero, suc, _+_, _-_, _<_, _≤_}
-use mathlib.Core.Path.{_≡_, refl, sym}
+use mathlib.Core.Path.{_≡_, refl}
 use mathlib.Core.List.{List}
 use mathlib.Core.Bool.{Bool, true, false}
 use lib.Dec.{ltb}
@@ -8,13 +8,13 @@ use native.Mathlib.Omega.{arith}
 use borrow.Author.Tests.{ne-eqb, ltb-true, ltb-false}
 use Rattle.reader.specs.Tests.{ifEq}
 use Rattle.reader.specs.Trees.{Tree}
-use Rattle.derivation_rules.specs.Rules.{Sequent, noRow, row}
+use Rattle.derivation_rules.specs.Rules.{State, noRow, row}
 
 -- k is no rule of a derivation
 abbrev pub NoRule : ℕ → Type 0
 NoRule k = (j : ℕ) → 64 ≤ j → j ≤ 80 → k ≡ j → ⊥
 
-pub row-none : (k : ℕ) (ps : List Tree) (st : Sequent) → NoRule k → row k ps st ≡ noRow
+pub row-none : (k : ℕ) (ps : List Tree) (st : State) → NoRule k → row k ps st ≡ noRow
 unfolding row ifEq
 row-none k ps st h =
     simp (

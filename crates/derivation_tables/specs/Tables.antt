@@ -1,27 +1,25 @@
 -- What the rules 64 to 80 ask and make, as a table of numbers, and that the rows say the same.
-use Prim.Native.Nat.{ℕ, zero, suc, _+_, _*_, _-_, _/_, _%_, _<_, _≤_}
-use mathlib.Core.Path.{_≡_, refl, sym, ap, _∙_}
+use Prim.Native.Nat.{ℕ, _+_, _*_, _-_, _/_, _%_, _<_, _≤_}
+use mathlib.Core.Path.{_≡_, refl, _∙_}
 use mathlib.Core.List.{List, [], _∷_, _++_}
 use mathlib.Core.Bool.{Bool, true, false}
-use lib.Dec.{eqb, ltb, leb}
-use lib.ListN.{getD, set, length, length-append}
+use lib.Dec.{ltb}
+use lib.ListN.{getD, set, length}
 use lib.Seq.{getD-set-other}
-use native.Mathlib.Omega.{arith}
-use borrow.Author.Tests.{lt-ltb, le-ltb, ltb-true, ltb-false, leb-true, le-leb, lt-leb}
-use Rattle.reader.specs.Tests.{both, every, ifEq, ifLt}
-use Rattle.reader.specs.Down.{Local, iter, down, down-zero, down-step}
-use Rattle.reader.specs.Trees.{Tree, leaf, same, firstOf, secondOf, ¬ᵗ_}
-use Rattle.reader.specs.Variables.{replaced, indicesBelow}
+use borrow.Author.Tests.{lt-ltb, le-ltb, ltb-true, ltb-false}
+use Rattle.reader.specs.Tests.{ifEq, ifLt}
+use Rattle.reader.specs.Down.{iter, down}
+use Rattle.reader.specs.Trees.{Tree, same, firstOf, secondOf, ¬ᵗ_}
 use Rattle.reader.specs.Shapes.{Shape}
-use Rattle.derivation_rules.specs.Rules.{Sequent, sequent, Row, row, premise, at, areClosed, noRow}
-use Rattle.derivation_rules.specs.Check.{hasRoom}
+use Rattle.derivation_rules.specs.Rules.{State, row, premise}
+use Rattle.reader.specs.Members.{part}
 use Rattle.derivation_trees.specs.Shapes.{shapeOf}
 use Rattle.derivation_tables.specs.RowLaws.{NoRule, row-none, by-rule}
 
 -- A form names a tree of a node: 4 times the source and a step. Source 1 is the goal, from 2 on the parts; step 0 itself, 1 its first part, 2 its second,
 -- 3 its negation. Form 0 is none.
 unfoldable pub sourceTree : List Tree → Tree → ℕ → Tree
-sourceTree ps goal w = ifLt w 2 goal (at ps (w - 2))
+sourceTree ps goal w = ifLt w 2 goal (part ps (w - 2))
 
 unfoldable pub stepTree : ℕ → Tree → Tree
 stepTree a t = ifEq a 0 t (ifEq a 1 (firstOf t) (ifEq a 2 (secondOf t) (¬ᵗ t)))
@@ -84,11 +82,11 @@ unfoldable pub grown : List Tree → List Tree → Tree → ℕ → List Tree
 grown Γ ps goal form = ifEq form 0 Γ (Γ ++ (formTree ps goal form ∷ []))
 
 -- premises from a goal's form and an added member's, as far as there is a goal
-unfoldable pub premisesFrom : List Tree → Sequent → ℕ → ℕ → List Sequent → List Sequent
+unfoldable pub premisesFrom : List Tree → State → ℕ → ℕ → List State → List State
 premisesFrom ps st g e rest = ifEq g 0 [] (premise st (grown (st .members) ps (st .goal) e) (formTree ps (st .goal) g) ∷ rest)
 
 -- the rows say what the table says
-module _ (ps : List Tree) (st : Sequent) where
+module _ (ps : List Tree) (st : State) where
   pub shapes-are : (k : ℕ) → (k ≡ 65 → ⊥) → row k ps st .shapes ≡ shapesOf (column k 0)
   unfolding row ifEq ifLt column shapesOf shapesStep shapeOf down iter
   shapes-are =

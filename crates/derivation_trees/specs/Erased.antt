@@ -6,10 +6,9 @@ use lib.Dec.{eqb, ltb}
 use borrow.Author.Tests.{ne-eqb}
 use Rattle.reader.specs.Words.{Reader}
 use Rattle.reader.specs.Tests.{ifEq, ifLt, ifTrue}
-use Rattle.reader.specs.Kinds.{role}
-use Rattle.reader.specs.At.{roleAt}
+use Rattle.reader.specs.Kinds.{role, roleAt}
 use Rattle.reader.specs.Trees.{Tree, leaf, node, lower, child, atom, ⊥ᵗ, ¬ᵗ_}
-use Rattle.reader.specs.Laws.{tree-zero, tree-step}
+use Rattle.reader.specs.TreeLaws.{tree-zero, tree-step}
 use Rattle.reader_chains.specs.Shapes.{false-tree, not-tree}
 use Rattle.reader_equality.specs.Keys.{isPart, partAt}
 use Rattle.derivation_rules.specs.Erase.{isType, untyped, bare, ⌊_⌋, bareTree}

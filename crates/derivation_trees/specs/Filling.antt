@@ -10,7 +10,7 @@ use native.Mathlib.Omega.{arith}
 use borrow.Author.Tests.{ltb-true, ltb-false}
 use Rattle.reader.specs.Words.{Reader}
 use Rattle.reader.specs.Trees.{child, atom, ⊥ᵗ, ¬ᵗ_}
-use Rattle.reader.specs.Laws.{child-below}
+use Rattle.reader.specs.TreeLaws.{child-below}
 use Rattle.reader_equality.specs.declared.Key.{Key}
 use Rattle.reader_equality.specs.Tables.{Zeros}
 use Rattle.reader_equality.specs.Least.{leastOf}

@@ -9,7 +9,7 @@ use borrow.Author.Tests.{eq-eqb, ne-eqb}
 use Rattle.reader.specs.Words.{Reader}
 use Rattle.reader.specs.Tests.{ifEq}
 use Rattle.reader.specs.Trees.{Tree, leaf, node, same, kindOf, firstOf, ⊥ᵗ, ¬ᵗ_}
-use Rattle.reader.specs.Laws.{same-equal, same-self}
+use Rattle.reader.specs.TreeLaws.{same-equal, same-self}
 use Rattle.reader_equality.specs.Least.{leastOf, number-equal}
 use Rattle.derivation_rules.specs.Erase.{bareTree}
 use Rattle.derivation_trees.specs.Erased.{Plain, bare-zero, bare-plain}

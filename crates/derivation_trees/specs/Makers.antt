@@ -5,7 +5,7 @@ use mathlib.Core.Bool.{false}
 use native.Mathlib.Omega.{arith}
 use Rattle.reader.specs.Words.{Reader}
 use Rattle.reader.specs.Trees.{Tree, leaf, node, child, atom, kindOf, ⊥ᵗ, ¬ᵗ_}
-use Rattle.reader.specs.Laws.{child-below}
+use Rattle.reader.specs.TreeLaws.{child-below}
 use Rattle.reader_equality.specs.Least.{leastOf, number-most, number-tree, number-equal, number-least}
 use Rattle.reader_equality.specs.Keys.{partAt}
 use Rattle.derivation_rules.specs.Erase.{bareTree}

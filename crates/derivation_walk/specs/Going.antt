@@ -14,14 +14,15 @@ use Rattle.reader.specs.Tests.{every}
 use Rattle.reader.specs.Kinds.{isRule}
 use Rattle.reader.specs.Trees.{lower}
 use Rattle.reader.specs.Chains.{items, premises}
-use Rattle.reader.specs.Laws.{lower-below, items-step}
+use Rattle.reader.specs.TreeLaws.{lower-below, items-step}
 use Rattle.reader.specs.Answers.{answer, accepted}
 use Rattle.reader.specs.Walk.{andThen}
-use Rattle.reader.specs.Meaning.{sound}
+use Rattle.reader.specs.WalkLaws.{sound}
 use Rattle.reader_laws.specs.Scan.{both-parts, every-head}
 use Rattle.reader_laws.specs.Under.{under, underLinks, under-step, under-links, under-links-zero}
-use Rattle.derivation_rules.specs.Rules.{Sequent}
-use Rattle.derivation_rules.specs.Check.{rowOf, premisesFit, nodeFault, premiseState}
+use Rattle.derivation_rules.specs.Rules.{State}
+use Rattle.derivation_rules.specs.Check.{rowOf, nodeFault, premiseState}
+use Rattle.reader.specs.Members.{premisesFit}
 use Rattle.derivation_trees.specs.Table.{Table}
 use Rattle.derivation_frames.specs.Frames.{stateOf, startAt, Framed, Kept, kept-self, kept-state, kept-framed}
 use Rattle.derivation_members.specs.Needs.{At}
@@ -375,7 +376,7 @@ step-on rd keys frames ways (suc e) count g some x pushed moved t =
     b : ℕ
     b = numberAt ways (suc e)
 
-    st : Sequent
+    st : State
     st = stateOf rd frames (suc e)
 
     same : stateOf rd pushed (suc e) ≡ st

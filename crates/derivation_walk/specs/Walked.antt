@@ -10,19 +10,19 @@ use Rattle.reader.specs.Words.{Reader}
 use Rattle.reader.specs.Trees.{lower}
 use Rattle.reader.specs.Answers.{answer, accepted}
 use Rattle.reader.specs.Walk.{andThen, walkNode, walkLinks}
-use Rattle.reader.specs.Meaning.{node-go, node-stop, link-zero, link-go, link-stop}
-use Rattle.derivation_rules.specs.Rules.{Sequent}
+use Rattle.reader.specs.WalkLaws.{node-go, node-stop, link-zero, link-go, link-stop}
+use Rattle.derivation_rules.specs.Rules.{State}
 use Rattle.derivation_rules.specs.Check.{nodeFault, premiseState}
 
 -- the walk from a node, and along a chain of premises
-unfoldable pub visit : Reader → ℕ → Sequent → ℕ → Answer
+unfoldable pub visit : Reader → ℕ → State → ℕ → Answer
 visit rd n st count = walkNode rd (nodeFault rd) (premiseState rd) n st count
 
-unfoldable pub follow : Reader → ℕ → ℕ → ℕ → Sequent → ℕ → Answer
+unfoldable pub follow : Reader → ℕ → ℕ → ℕ → State → ℕ → Answer
 follow rd c n b st count = walkLinks rd (nodeFault rd) (premiseState rd) c n b st count
 
 -- The ways through a node that is not record 0.
-module _ (rd : Reader) (n : ℕ) (st : Sequent) (count : ℕ) (pos : 0 < n) where
+module _ (rd : Reader) (n : ℕ) (st : State) (count : ℕ) (pos : 0 < n) where
   pub visit-stop : (nodeFault rd st n ≡ 0 → ⊥) → visit rd n st count ≡ answer (nodeFault rd st n) 2 n (count + 1)
   unfolding visit
   visit-stop h = node-stop rd (nodeFault rd) (premiseState rd) n st count pos h
@@ -56,7 +56,7 @@ then-then a f g h e = go (eqb (a .refusal) 0) refl
     go false q = let no = eqb-false (a .refusal) 0 q in ap (λ (x : Answer). andThen x g) (then-stop a f no) ∙ then-stop a g no ∙ sym (then-stop a h no)
 
 -- along the chain
-module _ (rd : Reader) (c n b : ℕ) (st : Sequent) (count : ℕ) where
+module _ (rd : Reader) (c n b : ℕ) (st : State) (count : ℕ) where
   pub follow-none : c ≡ 0 → follow rd c n b st count ≡ accepted count
   unfolding follow
   follow-none h = rw h (link-zero rd (nodeFault rd) (premiseState rd) n b st count)

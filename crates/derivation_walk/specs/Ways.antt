@@ -9,7 +9,8 @@ use lib.ListN.{getD, length, set, length-set}
 use lib.Seq.{getD-set-same, getD-set-other}
 use native.Mathlib.Omega.{arith}
 use borrow.Author.Tests.{eqb-true, eqb-false}
-use Rattle.reader.specs.Tests.{ifEq, eq-yes, eq-no}
+use Rattle.reader.specs.Tests.{ifEq}
+use Rattle.reader.specs.TestLaws.{eq-yes, eq-no}
 
 -- word w of depth d
 unfoldable pub wayWord : List ℕ → ℕ → ℕ → ℕ

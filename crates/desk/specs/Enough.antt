@@ -16,7 +16,7 @@ obligationRead = 16385
 abbrev pub proofRead : ℕ
 proofRead = 49169
 
--- "A file longer than any accepted one is still answered rightly (read one byte more than the limit)"
+-- A file longer than any accepted one is still answered rightly where one byte more than the limit is read
 pub enough : (ob pf : List ℕ) → proofAnswer (take obligationRead ob) (take proofRead pf) ≡ proofAnswer ob pf
 unfolding proofAnswer mostRecords ifEq
 enough = any-answer.enough 1 (λ ob pf. proofWalk (word ob pf (countOf ob)) (rootOf pf)) obligationRead proofRead refl refl

@@ -16,7 +16,7 @@ obligationRead = 16385
 abbrev pub derivationRead : ℕ
 derivationRead = 3200017
 
--- "A file longer than any accepted one is still answered rightly (read one byte more than the limit)"
+-- A file longer than any accepted one is still answered rightly where one byte more than the limit is read
 pub enough : (ob dv : List ℕ) → derivationAnswer (take obligationRead ob) (take derivationRead dv) ≡ derivationAnswer ob dv
 unfolding derivationAnswer mostRecords ifEq
 enough = any-answer.enough 2 (λ ob dv. derivationWalk (word ob dv (countOf ob)) (rootOf dv)) obligationRead derivationRead refl refl

@@ -65,7 +65,7 @@ stays a w = go (eqb (a .refusal) 0) refl
 abbrev afterReading : ℕ → (List ℕ → List ℕ → Answer) → List ℕ → List ℕ → Answer
 afterReading mode rest ob s = orAnswer (reading mode ob s) (rest ob s)
 
--- "A file longer than any accepted one is still answered rightly (read one byte more than the limit)", whatever follows the reading
+-- A file longer than any accepted one is still answered rightly where one byte more than the limit is read, whatever follows the reading
 module _ (mode : ℕ) (rest : List ℕ → List ℕ → Answer) where
   obligation-refused : (s ob : List ℕ) → mostBytes 0 < length ob → afterReading mode rest ob s ≡ answer 1 1 0 0
   unfolding reading orAnswer

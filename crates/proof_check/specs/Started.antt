@@ -1,8 +1,8 @@
 -- The start of the walk over a pair that passes places 1 to 12.
-use Prim.Native.Nat.{ℕ, zero, suc, _+_, _*_, _<_, _≤_}
+use Prim.Native.Nat.{ℕ, suc, _+_, _*_, _<_, _≤_}
 use mathlib.Core.Path.{_≡_, refl, sym, ap, _∙_}
 use mathlib.Core.List.{List, [], _∷_, _++_, append-assoc, append-nil}
-use mathlib.Core.Bool.{Bool, true, false}
+use mathlib.Core.Bool.{true}
 use lib.ListN.{length, take, replicate, length-replicate}
 use lib.Seq.{length-take-le}
 use native.Mathlib.Omega.{arith}
@@ -13,7 +13,7 @@ use Rattle.reader.specs.Tests.{ifEq}
 use Rattle.reader.specs.Kinds.{isRule}
 use Rattle.reader.specs.Trees.{Tree, lower, tree}
 use Rattle.reader.specs.Chains.{linked, itemTrees}
-use Rattle.reader.specs.Laws.{lower-below, linked-step}
+use Rattle.reader.specs.TreeLaws.{lower-below, linked-step}
 use Rattle.reader.specs.Answers.{orAnswer}
 use Rattle.reader.specs.Places.{mostRecords, hypothesisChain, negatedGoal, countOf, rootOf, reading}
 use Rattle.reader_chains.specs.Chains.{trees-zero, trees-step}
@@ -21,9 +21,9 @@ use Rattle.reader_equality.specs.Least.{Numbered}
 use Rattle.reader_laws.specs.File.{ReadObligation, ReadSecond, beside, lastOf, reading-parts, length-parts, header-parts, counts-parts}
 use Rattle.reader_laws.specs.Pair.{root-range, pair-goal-range, pair-hypotheses-range, pair-hypotheses-limit}
 use Rattle.reader_laws.specs.Under.{under, root-under}
-use Rattle.proof_rules.specs.Check.{nodeFault, premiseSequent, startSequent, proofWalk, proofAnswer}
+use Rattle.proof_rules.specs.Check.{startSequent, proofWalk, proofAnswer}
 use Rattle.proof_members.specs.Makers.{Table}
-use Rattle.proof_members.specs.Sequents.{sequent, Keys, Ready}
+use Rattle.proof_members.specs.Sequents.{sequent, Ready}
 use Rattle.proof_members.specs.Added.{Added}
 use Rattle.proof_nodes.specs.Nodes.{At}
 use Rattle.proof_walk.specs.Walked.{visit}

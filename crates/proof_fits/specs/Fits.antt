@@ -1,21 +1,21 @@
 -- The fifteenth column of the rows in the order in which the code tests it, and the ways out of that code.
-use Prim.Native.Nat.{ℕ, zero, suc, _<_, _≤_}
-use mathlib.Core.Path.{_≡_, refl, sym, ap, _∙_}
+use Prim.Native.Nat.{ℕ, _<_, _≤_}
+use mathlib.Core.Path.{_≡_, refl}
 use mathlib.Core.List.{List, [], _∷_, map}
 use mathlib.Core.Bool.{Bool, true, false, not}
-use lib.Dec.{eqb}
-use lib.ListN.{getD, drop}
+use lib.ListN.{drop}
 use native.Mathlib.Omega.{arith}
 use borrow.Author.Tests.{not-true, not-false}
 use Rattle.reader.specs.Words.{Reader}
 use Rattle.reader.specs.Tests.{both, every, ifEq}
-use Rattle.reader.specs.Trees.{Tree, leaf, lower, child, tree, firstOf, secondOf, same}
-use Rattle.reader.specs.Chains.{items, itemTrees, parts}
-use Rattle.reader.specs.Laws.{lower-below}
+use Rattle.reader.specs.Trees.{Tree, lower, child, tree, firstOf, secondOf, same}
+use Rattle.reader.specs.Chains.{itemTrees, parts}
+use Rattle.reader.specs.TreeLaws.{lower-below}
 use Rattle.reader.specs.Variables.{replaced, bears, indicesBelow, isClosed, instance}
 use Rattle.reader.specs.Typing.{typeOf}
-use Rattle.proof_rules.specs.Rules.{Row, at, areClosed, row, noRow}
-use Rattle.proof_rules.specs.RowLaws.{NoRule, row-none, by-rule}
+use Rattle.proof_rules.specs.Rules.{areClosed, row}
+use Rattle.reader.specs.Members.{part}
+use Rattle.proof_rules.specs.RowLaws.{row-none, by-rule}
 use Rattle.proof_rules.specs.Check.{rowOf}
 use Rattle.reader_chains.specs.Shapes.{first-tree, second-tree}
 use Rattle.reader_chains.specs.Chains.{trees-zero, trees-step, trees-drop}
@@ -28,10 +28,10 @@ fits35 ps = both (areClosed ps) (same (pathTree ps 4) (pathTree ps 5))
 
 -- 43 and 44, with the ∀ as q
 unfoldable pub quantified : List Tree → Tree → Bool
-quantified ps q = both (areClosed ps) (both (same (typeOf (at ps 1)) (firstOf q)) (same (at ps 2) (replaced 0 (at ps 1) (secondOf q))))
+quantified ps q = both (areClosed ps) (both (same (typeOf (part ps 1)) (firstOf q)) (same (part ps 2) (replaced 0 (part ps 1) (secondOf q))))
 
 unfoldable pub fits45 : List Tree → Bool
-fits45 ps = both (areClosed (drop 1 ps)) (same (at ps 1) (instance (drop 2 ps) (pathTree ps 6)))
+fits45 ps = both (areClosed (drop 1 ps)) (same (part ps 1) (instance (drop 2 ps) (pathTree ps 6)))
 
 -- 46, in three steps
 unfoldable pub replacedParts : Reader → ℕ → ℕ → ℕ → ℕ → Bool
@@ -40,12 +40,12 @@ replacedParts rd n body t u =
 
 unfoldable pub places : List Tree → Bool
 places ps =
-    both (same (typeOf (at ps 1)) (typeOf (at ps 2)))
-    (both (bears 0 (typeOf (at ps 1)) (at ps 0))
-    (both (same (at ps 3) (replaced 0 (at ps 1) (at ps 0))) (same (at ps 4) (replaced 0 (at ps 2) (at ps 0)))))
+    both (same (typeOf (part ps 1)) (typeOf (part ps 2)))
+    (both (bears 0 (typeOf (part ps 1)) (part ps 0))
+    (both (same (part ps 3) (replaced 0 (part ps 1) (part ps 0))) (same (part ps 4) (replaced 0 (part ps 2) (part ps 0)))))
 
 unfoldable pub fits46 : List Tree → Bool
-fits46 ps = both (indicesBelow 1 (at ps 0)) (both (areClosed (drop 1 ps)) (places ps))
+fits46 ps = both (indicesBelow 1 (part ps 0)) (both (areClosed (drop 1 ps)) (places ps))
 
 closed-cons : (t : Tree) (ts : List Tree) → every isClosed (t ∷ ts) ≡ both (isClosed t) (every isClosed ts)
 unfolding every both

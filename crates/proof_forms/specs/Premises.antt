@@ -1,20 +1,20 @@
 -- The premises of a node, and the ways out of the code that counts them.
-use Prim.Native.Nat.{ℕ, zero, suc, _-_, _<_}
-use mathlib.Core.Path.{_≡_, refl, sym}
-use mathlib.Core.List.{List, [], _∷_, map}
+use Prim.Native.Nat.{ℕ, zero, suc, _-_}
+use mathlib.Core.Path.{_≡_, refl}
+use mathlib.Core.List.{List, _∷_, map}
 use mathlib.Core.Bool.{Bool, true, false}
 use lib.Dec.{eqb, eqb·suc-zero, eqb·suc-suc}
 use lib.ListN.{length}
 use native.Mathlib.Omega.{arith}
-use borrow.Author.Tests.{eq-eqb, ne-eqb}
+use borrow.Author.Tests.{ne-eqb}
 use Rattle.reader.specs.Words.{Reader}
 use Rattle.reader.specs.Tests.{both, every}
 use Rattle.reader.specs.Kinds.{isRule}
 use Rattle.reader.specs.Trees.{lower, tree}
 use Rattle.reader.specs.Chains.{items, premises, parts}
-use Rattle.reader.specs.Laws.{items-zero, items-step}
-use Rattle.proof_rules.specs.Rules.{Row, row}
-use Rattle.proof_rules.specs.Check.{rowOf, premisesFit}
+use Rattle.reader.specs.TreeLaws.{items-zero, items-step}
+use Rattle.proof_rules.specs.Check.{rowOf}
+use Rattle.reader.specs.Members.{premisesFit}
 use Rattle.proof_forms.specs.Tables.{premiseCount, premises-are}
 
 -- the items of chain c are n rule nodes
@@ -57,6 +57,6 @@ module _ (rd : Reader) (c n : ℕ) where
 
 -- the premises of a node
 pub premises-of : (rd : Reader) (n k c count : ℕ) (r : Bool) → k ≡ rd n 0 → c ≡ lower rd n 2 → count ≡ premiseCount k → r ≡ areNodes rd c count →
-    r ≡ premisesFit rd n (length (rowOf rd n .adds))
+    r ≡ premisesFit 1 rd n (length (rowOf rd n .adds))
 unfolding premisesFit rowOf premises areNodes
 premises-of rd n k c count r ek ec en e = rw (premises-are (map (tree rd) (parts rd n)) (rd n 0), ← ek, ← ec, ← en) e

@@ -1,20 +1,21 @@
 -- Shapes as numbers, and the ways out of the code that tests them.
 use Prim.Native.Nat.{ℕ, zero, suc, _-_, _/_, _%_, _<_, _≤_}
-use mathlib.Core.Path.{_≡_, refl, sym, ap, _∙_}
-use mathlib.Core.List.{List, [], _∷_, map}
-use mathlib.Core.Bool.{Bool, true, false}
+use mathlib.Core.Path.{_≡_, refl, ap}
+use mathlib.Core.List.{List, [], _∷_}
+use mathlib.Core.Bool.{Bool, false}
 use lib.Dec.{eqb, eqb·suc-zero}
-use lib.ListN.{getD, drop, replicate}
+use lib.ListN.{getD, replicate}
 use native.Mathlib.Omega.{arith}
 use borrow.Author.Tests.{eq-eqb, ne-eqb, lt-ltb, le-ltb}
 use Rattle.reader.specs.Words.{Reader}
 use Rattle.reader.specs.Tests.{both, ifLt}
-use Rattle.reader.specs.Down.{Local, iter, down, down-zero, down-step}
+use Rattle.reader.specs.Down.{iter, down}
+use Rattle.reader.specs.DownLaws.{Local, down-zero, down-step}
 use Rattle.reader.specs.Kinds.{class}
-use Rattle.reader.specs.Trees.{Tree, leaf, node, lower, child, atom, tree, kindOf, atomOf, firstOf}
+use Rattle.reader.specs.Trees.{Tree, leaf, lower, child, atom, tree, kindOf, atomOf}
 use Rattle.reader.specs.Chains.{itemTrees, parts}
 use Rattle.reader.specs.Shapes.{Shape, ofKind, ofClass, negated, type, formula, forAllTypes, hasShape, haveShapes}
-use Rattle.reader.specs.Laws.{tree-zero}
+use Rattle.reader.specs.TreeLaws.{tree-zero}
 use Rattle.reader_chains.specs.Shapes.{first-tree, atom-tree, lower-zero}
 use Rattle.reader_chains.specs.Chains.{trees-zero, trees-step}
 

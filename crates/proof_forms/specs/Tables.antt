@@ -1,11 +1,10 @@
 -- What the rules 32 to 46 say of the number of premises and the shapes of parts, as tables, and that the rows say the same.
 use Prim.Native.Nat.{ℕ, _-_, _<_, _≤_}
-use mathlib.Core.Path.{_≡_, refl, sym, ap}
+use mathlib.Core.Path.{_≡_, refl}
 use mathlib.Core.List.{List, [], _∷_, map}
 use mathlib.Core.Bool.{Bool, true, false}
 use lib.Dec.{ltb}
 use lib.ListN.{getD, length}
-use native.Mathlib.Omega.{arith}
 use borrow.Author.Tests.{lt-ltb, le-ltb, ltb-true, ltb-false}
 use Rattle.reader.specs.Tests.{ifEq, ifLt}
 use Rattle.reader.specs.Words.{Reader}
@@ -14,7 +13,7 @@ use Rattle.reader.specs.Chains.{items, itemTrees, parts}
 use Rattle.reader.specs.Shapes.{haveShapes}
 use Rattle.proof_rules.specs.Check.{rowOf}
 use Rattle.reader.specs.Down.{iter, down}
-use Rattle.proof_rules.specs.Rules.{Row, row, noRow}
+use Rattle.proof_rules.specs.Rules.{row}
 use Rattle.proof_rules.specs.RowLaws.{NoRule, row-none, by-rule}
 use Rattle.proof_forms.specs.Shapes.{shapeStep, shapeOf, shapesStep, shapesOf, instanceShapes}
 

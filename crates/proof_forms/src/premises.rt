@@ -7,7 +7,8 @@ ghost use mathlib.Core.Path.{_≡_};
 ghost use lib.ListN.{length};
 ghost use Rattle.reader.specs.Words.{word};
 ghost use Rattle.proof_rules.specs.Rules.{Row};
-ghost use Rattle.proof_rules.specs.Check.{rowOf, premisesFit};
+ghost use Rattle.proof_rules.specs.Check.{rowOf};
+ghost use Rattle.reader.specs.Members.{premisesFit};
 ghost use Rattle.proof_forms.specs.Premises.{areNodes};
 
 // Are the items of chain c n rule nodes?
@@ -30,7 +31,7 @@ fn are_nodes(obligation: &[u8], second: &[u8], m: usize, c: usize, n: usize) -> 
 
 // Has node n as many premises as its rule, each a rule node?
 pub fn premises_fit(obligation: &[u8], second: &[u8], m: usize, n: usize) -> bool
-    ensures { λ r. ⌜ r ≡ premisesFit (word (now (obligation .entry)) (now (second .entry)) m) n (length (rowOf (word (now (obligation .entry)) (now (second .entry)) m) n .adds)) ⌝ }
+    ensures { λ r. ⌜ r ≡ premisesFit 1 (word (now (obligation .entry)) (now (second .entry)) m) n (length (rowOf (word (now (obligation .entry)) (now (second .entry)) m) n .adds)) ⌝ }
 {
     let k = words::word_at(obligation, second, m, n, 0);
     let c = trees::lower_at(obligation, second, m, n, 2);

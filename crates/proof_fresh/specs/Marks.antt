@@ -1,23 +1,22 @@
 -- Marks of the records that a constant is in, and the ways out of the code that makes and reads them.
 use Prim.Native.Nat.{ℕ, zero, suc, _+_, _/_, _%_, _<_, _≤_}
-use mathlib.Core.Path.{_≡_, refl, sym, ap, _∙_}
-use mathlib.Core.List.{List, [], _∷_}
+use mathlib.Core.Path.{_≡_, refl, sym, _∙_}
+use mathlib.Core.List.{List, _∷_}
 use mathlib.Core.Bool.{Bool, true, false, not}
 use lib.Dec.{eqb, ltb}
 use lib.ListN.{length, take, getD, set, drop-of-length-le}
 use lib.Seq.{getD-set-same, getD-set-other, length-take-le}
 use native.Mathlib.Omega.{arith}
-use borrow.Author.Tests.{eq-eqb, ne-eqb, eqb-true, eqb-false, ltb-true, ltb-false}
+use borrow.Author.Tests.{eq-eqb, ne-eqb, eqb-true, ltb-true, ltb-false}
 use Rattle.reader.specs.Words.{Reader}
 use Rattle.reader.specs.Tests.{both, either, every, ifEq, ifTrue}
 use Rattle.reader.specs.Kinds.{isSymbol}
-use Rattle.reader.specs.Trees.{Tree, leaf, node, child, atom, tree, ¬ᵗ_, _=ᵗ_}
+use Rattle.reader.specs.Trees.{Tree, child, atom, tree, ¬ᵗ_, _=ᵗ_}
 use Rattle.reader.specs.Variables.{isConstant, occurs}
-use Rattle.reader.specs.Laws.{below, child-below, tree-zero, tree-step}
-use Rattle.proof_rules.specs.Check.{isFresh}
-use Rattle.proof_members.specs.Keys.{by-one, equationOf, rightOf, leftOf, body, decoded, NormalBody, Normal, body-equation, body-single, decoded-negation, decoded-plain}
-use Rattle.proof_members.specs.Makers.{Table}
-use Rattle.proof_members.specs.Sequents.{sequent, Keys, Ready, membersFrom, members-next, in-memory}
+use Rattle.reader.specs.TreeLaws.{below, child-below, tree-zero, tree-step}
+use Rattle.reader.specs.Members.{isFresh}
+use Rattle.proof_members.specs.Keys.{by-one, equationOf, rightOf, leftOf, body, decoded, Normal, body-equation, body-single, decoded-negation, decoded-plain}
+use Rattle.proof_members.specs.Sequents.{sequent, Ready, membersFrom, members-next, in-memory}
 
 -- the mark of a record: 1 where the constant is in it
 unfoldable pub markOf : Bool → ℕ

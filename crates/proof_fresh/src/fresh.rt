@@ -7,7 +7,7 @@ ghost use lib.ListN.{length};
 ghost use Rattle.reader.specs.Words.{word};
 ghost use Rattle.reader.specs.Trees.{tree};
 ghost use Rattle.reader.specs.Variables.{occurs};
-ghost use Rattle.proof_rules.specs.Check.{isFresh};
+ghost use Rattle.reader.specs.Members.{isFresh};
 ghost use Rattle.proof_members.specs.Keys.{decoded, Normal};
 ghost use Rattle.proof_members.specs.Sequents.{sequent, Ready};
 ghost use Rattle.proof_fresh.specs.Marks.{Marked, markOf, constantAt, partMarked};

@@ -3,24 +3,28 @@ use Prim.Native.Nat.{ℕ, _%_}
 use mathlib.Core.Path.{_≡_, refl, ap}
 use mathlib.Core.List.{List}
 use mathlib.Core.Bool.{Bool, true, false}
-use mathlib.Core.Logic.{_↔_, _⊎_, inl, inr, ⊎-elim}
+use mathlib.Core.Logic.{_⊎_, inl, inr, ⊎-elim}
 use lib.Dec.{eqb, leb}
 use lib.ListN.{length}
 use native.Mathlib.Omega.{arith}
 use borrow.Author.Tests.{eq-eqb, eqb-true, eqb-false, le-leb}
 use Rattle.reader.specs.declared.Answer.{Answer}
 use Rattle.reader.specs.Words.{Reader, recordCount}
-use Rattle.reader.specs.Tests.{both, every, ifEq}
+use Rattle.reader.specs.Tests.{both, every, ifEq, ifLt}
 use Rattle.reader.specs.Kinds.{class, isRule}
 use Rattle.reader.specs.Trees.{Tree, kindOf, atomOf}
 use Rattle.reader.specs.Chains.{linked, itemTrees}
 use Rattle.reader.specs.Answers.{accepted}
-use Rattle.reader.specs.Places.{mostRecords, lengthFits, headerFits, hypothesisChain, countOf, countsFit, goalFits, isHypothesis, typeCount, hypothesisFits, hypothesesFit, reading}
+use Rattle.reader.specs.Places.{mostRecords, lengthFits, headerFits, hypothesisChain, countOf, countsFit, goalFits}
+use Rattle.reader.specs.Places.{isHypothesis, typeCount, hypothesisFits, hypothesesFit, reading}
 use Rattle.reader_laws.specs.Scan.{both-join, either-parts, between-parts, when-equal, when-different}
-use Rattle.reader_laws.specs.File.{alone, beside, ReadObligation, ReadSecond, reading-parts, reading-join, length-parts, header-parts, counts-parts, goal-parts, hypothesis-parts, hypotheses-link, each-hypothesis, hypotheses-limit}
+use Rattle.reader_laws.specs.File.{alone, beside, ReadObligation, ReadSecond, reading-parts, reading-join}
+use Rattle.reader_laws.specs.File.{length-parts, header-parts, counts-parts, goal-parts}
+use Rattle.reader_laws.specs.File.{hypothesis-parts, hypotheses-link, each-hypothesis, hypotheses-limit}
 use Rattle.reader_laws.specs.Pair.{goal-range, hypotheses-range, root-range}
-use Rattle.proof_meaning.specs.FactLaws.{every-in, every-out, either-first, either-second, indices-in, indices-out, types-in, types-out, closed-in, closed-out}
-use Rattle.proof_meaning.specs.WellFormed.{WholeRecords, Header, Goal, Hypothesis, Hypotheses, RuleKind, ProofHeader, WellFormedObligation, WellFormedProof, WellFormed}
+use Rattle.reader_laws.specs.NotionLaws.{every-in, every-out, either-first, either-second, indices-in, indices-out, types-in, types-out, closed-in, closed-out}
+use Rattle.proof_meaning.specs.WellFormed.{WholeRecords, Header, Goal, Hypothesis, Hypotheses, RuleKind, ProofHeader}
+use Rattle.proof_meaning.specs.WellFormed.{WellFormedObligation, WellFormedProof, WellFormed}
 use Rattle.proof_meaning.specs.TableLaws.{between-out}
 use Rattle.proof_meaning.specs.RecordLaws.{record-in, record-out}
 
@@ -53,7 +57,7 @@ rule-out k r = between-out 32 46 k (r .least) (r .most)
 
 -- hypotheses
 plain-count : (t : Tree) → class (kindOf t) ≡ 5 → typeCount t ≡ 0
-unfolding typeCount class
+unfolding typeCount class ifLt
 plain-count t h = when-different _ _ (kindOf t) 22 (λ e. let seven : class (kindOf t) ≡ 7 = ap class e in omega arith)
 
 hypothesis-in : (t : Tree) → hypothesisFits t ≡ true → Hypothesis t
@@ -169,10 +173,10 @@ second-out ob pf w = record {
 }
 
 -- Places 1 to 12 accept an obligation and a proof exactly where the pair is well formed.
-pub well-formed : (ob pf : List ℕ) → (reading 1 ob pf ≡ accepted 0) ↔ WellFormed ob pf
-well-formed ob pf = (to, λ w. reading-join 1 ob pf (obligation-out ob (w .obligation)) (second-out ob pf (w .proof)))
-  where
-    to : reading 1 ob pf ≡ accepted 0 → WellFormed ob pf
-    to h =
-        let p = reading-parts 1 ob pf (ap (λ (a : Answer). a .refusal) h) in
-        record { obligation = obligation-in ob (p .0); proof = second-in ob pf (p .0) (p .1) }
+pub well-formed-in : (ob pf : List ℕ) → reading 1 ob pf ≡ accepted 0 → WellFormed ob pf
+well-formed-in ob pf h =
+    let p = reading-parts 1 ob pf (ap (λ (a : Answer). a .refusal) h) in
+    record { obligation = obligation-in ob (p .0); proof = second-in ob pf (p .0) (p .1) }
+
+pub well-formed-out : (ob pf : List ℕ) → WellFormed ob pf → reading 1 ob pf ≡ accepted 0
+well-formed-out ob pf w = reading-join 1 ob pf (obligation-out ob (w .obligation)) (second-out ob pf (w .proof))

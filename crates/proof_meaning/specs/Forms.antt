@@ -8,16 +8,15 @@ use native.Mathlib.Omega.{arith}
 use borrow.Author.Tests.{eqb-true, eq-eqb}
 use Rattle.reader.specs.Words.{Reader}
 use Rattle.reader.specs.Tests.{both, ifEq, ifLt}
-use Rattle.reader.specs.Kinds.{class, isNumber, isSymbol, role}
-use Rattle.reader.specs.At.{roleAt}
+use Rattle.reader.specs.Kinds.{class, isNumber, isSymbol, role, roleAt}
 use Rattle.reader.specs.Trees.{Tree, leaf, node, child, atom, tree, kindOf, firstOf, _∧ᵗ_, _⇒ᵗ_, ¬ᵗ_, ∀ᵗ, _=ᵗ_, setᵗ}
-use Rattle.reader.specs.Laws.{tree-zero, tree-step}
+use Rattle.reader.specs.TreeLaws.{tree-zero, tree-step}
 use Rattle.reader.specs.Shapes.{Shape, ofClass, ofKind, negated, type, formula, forAllTypes, hasShape, haveShapes}
 use Rattle.reader_laws.specs.Scan.{both-parts, when-less, when-true, when-false}
 use Rattle.reader_laws.specs.Record.{role-known}
-use Rattle.proof_meaning.specs.Facts.{here, there, Every, IsType}
-use Rattle.proof_meaning.specs.FactLaws.{every-0, every-more}
-use Rattle.proof_meaning.specs.Proves.{constantᵗ, forTypesᵗ}
+use Rattle.reader.specs.Notions.{here, there, Every, IsType}
+use Rattle.reader_laws.specs.NotionLaws.{every-0, every-more}
+use Rattle.proof_meaning.specs.Signs.{constantᵗ, forTypesᵗ}
 
 -- A record whose tree has kind k, where k is not 0.
 module _ (rd : Reader) (i k : ℕ) (h : kindOf (tree rd i) ≡ k) (given : 0 < k) where
@@ -150,11 +149,13 @@ of-negated rd s i h =
     (e, ap (λ (t : Tree). hasShape s (firstOf t)) (sym e) ∙ p .1)
 
 -- forms of parts, one by one
-pub forms-head : (s : Shape) (ss : List Shape) (t : Tree) (ts : List Tree) → haveShapes (s ∷ ss) (t ∷ ts) ≡ true → (hasShape s t ≡ true) × (haveShapes ss ts ≡ true)
+pub forms-head : (s : Shape) (ss : List Shape) (t : Tree) (ts : List Tree) → haveShapes (s ∷ ss) (t ∷ ts) ≡ true →
+    (hasShape s t ≡ true) × (haveShapes ss ts ≡ true)
 unfolding haveShapes
 forms-head s ss t ts h = go (hasShape s t) refl h
   where
-    go : (b : Bool) → hasShape s t ≡ b → _≡_ {A = Bool} (elim b [ true ↦ haveShapes ss ts | false ↦ false ]) true → (hasShape s t ≡ true) × (haveShapes ss ts ≡ true)
+    go : (b : Bool) → hasShape s t ≡ b → _≡_ {A = Bool} (elim b [ true ↦ haveShapes ss ts | false ↦ false ]) true →
+        (hasShape s t ≡ true) × (haveShapes ss ts ≡ true)
     go true e h = (e, h)
     go false e h = absurd (false≢true h)
 

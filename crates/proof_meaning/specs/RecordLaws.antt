@@ -11,12 +11,13 @@ use Rattle.reader.specs.Trees.{tree}
 use Rattle.reader.specs.Weight.{isWeighed, weight}
 use Rattle.reader.specs.Names.{nameOf, isName, nameTaken}
 use Rattle.reader.specs.Typing.{isTyped}
-use Rattle.reader.specs.Records.{mostWeight, weightFits, nameStands, nameIsFree, typingFits}
+use Rattle.reader.specs.Records.{mostWeight, weightFits, nameSpelled, nameIsFree, typingFits}
 use Rattle.reader_laws.specs.Scan.{when-true, when-false, when-different}
 use Rattle.reader_laws.specs.Record.{Sound, weight-limit, is-typed, name-is-name, name-not-taken}
 use Rattle.proof_meaning.specs.Spelling.{Symbol}
 use Rattle.proof_meaning.specs.WellFormed.{WellFormedRecord}
-use Rattle.proof_meaning.specs.TableLaws.{Fit, entry-in, entry-out, entry-kind, chains-in, name-fits, chains-out, weighed-in, weighed-out, symbol-names, application-words}
+use Rattle.proof_meaning.specs.TableLaws.{Fit, entry-in, entry-out, entry-kind, chains-in, name-fits, chains-out}
+use Rattle.proof_meaning.specs.TableLaws.{weighed-in, weighed-out, symbol-names, application-words}
 use Rattle.proof_meaning.specs.SpellingLaws.{good-in, good-out, own-type-in, own-in, own-out, symbol-of}
 use Rattle.proof_meaning.specs.TypedLaws.{typed-in, typed-out}
 
@@ -50,7 +51,7 @@ symbols-only rd i test f = go (eqb (nameOf rd i) 0) refl
     go false e = f (symbol-of rd i (eqb-false _ 0 e))
 
 pub record-out : (mode : ℕ) (rd : Reader) (i : ℕ) → (mode ≡ 2 → ⊥) → 1 ≤ i → WellFormedRecord mode rd i → Sound mode rd i
-unfolding weightFits typingFits nameStands nameIsFree ifEq
+unfolding weightFits typingFits nameSpelled nameIsFree ifEq
 record-out mode rd i other pos r =
     let fits = entry-out (r .entry) in
     let limit : mostWeight mode ≡ 4096 = usual-weight mode other in

@@ -1,9 +1,9 @@
--- A refused pair has the first refusal in paper 01's order: `Refused` holds exactly of the answer that the definition gives.
+-- A pair is well formed or refused at one of the places before the walk, and what `Refused` says is the definition's answer.
 use Prim.Native.Nat.{ℕ, zero, suc, _+_, _*_, _-_, _/_, _%_, _<_, _≤_}
 use mathlib.Core.Path.{_≡_, refl, sym, ap, subst, _∙_}
 use mathlib.Core.List.{List}
 use mathlib.Core.Bool.{Bool, true, false}
-use mathlib.Core.Logic.{_↔_, _⊎_, inl, inr, ⊎-elim}
+use mathlib.Core.Logic.{_⊎_, inl, inr, ⊎-elim}
 use lib.Dec.{eqb, ltb}
 use lib.ListN.{length}
 use native.Mathlib.Omega.{arith}
@@ -15,19 +15,22 @@ use Rattle.reader.specs.Tests.{both, demand, ifEq, ifTrue}
 use Rattle.reader.specs.Kinds.{isRule}
 use Rattle.reader.specs.Records.{recordFault}
 use Rattle.reader.specs.Answers.{answer, accepted, placed, orAnswer, firstFault}
-use Rattle.reader.specs.Places.{mostRecords, lengthFits, headerFits, rootOf, countOf, countsFit, goalFits, hypothesesFit, namings, namingFault, obligationReading, secondReading, reading}
+use Rattle.reader.specs.Places.{mostRecords, lengthFits, headerFits, rootOf, countOf, countsFit, goalFits, hypothesesFit}
+use Rattle.reader.specs.Places.{namings, namingFault, obligationReading, secondReading, reading}
 use Rattle.reader_laws.specs.Scan.{both-parts, both-join, orAnswer-join, placed-pass, scan-join}
 use Rattle.reader_laws.specs.Record.{record-parts, record-join}
 use Rattle.reader_laws.specs.File.{alone, beside, lastOf, naming-parts, naming-join, obligation-join}
 use Rattle.reader_laws.specs.Pair.{word-first, word-second, no-rule, kind-or-rule, obligation-sound}
-use Rattle.proof_rules.specs.Check.{startSequent, proofWalk, proofAnswer}
-use Rattle.proof_meaning.specs.FactLaws.{not-so, failed}
-use Rattle.proof_meaning.specs.WellFormed.{WellFormedRecord, WholeRecords, Header, Goal, Hypotheses, Root, NamedOnce, ProofHeader, WellFormedObligation, WellFormed}
+use Rattle.proof_rules.specs.Check.{proofWalk, proofAnswer}
+use Rattle.reader_laws.specs.NotionLaws.{not-so, failed}
+use Rattle.proof_meaning.specs.WellFormed.{WellFormedRecord, WholeRecords, Header, Goal, Hypotheses, Root, NamedOnce, ProofHeader}
+use Rattle.proof_meaning.specs.WellFormed.{WellFormedObligation, WellFormed}
 use Rattle.proof_meaning.specs.RecordLaws.{record-in, record-out}
-use Rattle.proof_meaning.specs.FileLaws.{whole-in, whole-out, header-in, header-out, rule-in, rule-out, goal-out, hypotheses-out, obligation-in, obligation-out, proof-header-in, proof-header-out, well-formed}
-use Rattle.proof_meaning.specs.Theorem.{RootProves, head, answer-is, accepted-means, means-accepted, no-refusal}
+use Rattle.proof_meaning.specs.FileLaws.{whole-in, whole-out, header-in, header-out, rule-in, rule-out, goal-out, hypotheses-out}
+use Rattle.proof_meaning.specs.FileLaws.{obligation-in, obligation-out, proof-header-in, proof-header-out, well-formed-out}
+use Rattle.proof_meaning.specs.AnswerLaws.{head, answer-is}
 use Rattle.proof_meaning.specs.Refused.{First, recordTests, Refused}
-use Rattle.proof_meaning.specs.StopLaws.{first-in, first-out, record-tests, record-first-given, stops-in, stops-out}
+use Rattle.proof_meaning.specs.StopLaws.{first-in, first-out, record-tests, record-first-given, stops-out}
 
 -- places one after the other
 stop-at : (a b c : Answer) → a ≡ c → 1 ≤ c .refusal → orAnswer a b ≡ c
@@ -63,7 +66,8 @@ scan-first fault (suc n) i = go (eqb (fault i) 0) refl (scan-first fault n (i + 
         (λ s. let low : i + 1 ≤ s .0 = s .1 in let high : s .0 < i + 1 + n = s .2 in
         inr (s .0, omega arith, omega arith, λ l p q. apart l none p (λ u. s .3 l u q), s .4)) r
 
-scan-stop : (fault : ℕ → ℕ) (f n i j r : ℕ) → i ≤ j → j < i + n → ((l : ℕ) → i ≤ l → l < j → fault l ≡ 0) → fault j ≡ r → 1 ≤ r → firstFault fault f n i ≡ answer r f j 0
+scan-stop : (fault : ℕ → ℕ) (f n i j r : ℕ) → i ≤ j → j < i + n → ((l : ℕ) → i ≤ l → l < j → fault l ≡ 0) → fault j ≡ r → 1 ≤ r →
+    firstFault fault f n i ≡ answer r f j 0
 unfolding firstFault
 scan-stop fault f zero i j r p q none e h = absurd (omega arith)
 scan-stop fault f (suc n) i j r p q none e h = go (eqb j i) refl (λ u. scan-stop fault f n (i + 1) j r u (omega arith) (λ l a b. none l (omega arith) b) e h)
@@ -153,7 +157,7 @@ module _ (ob : List ℕ) where
   obligation-passes w = obligation-join ob (obligation-out ob w)
 
   -- An obligation is well formed, or refused whatever the proof.
-  abbrev RefusedAlone : Type 0
+  abbrev pub RefusedAlone : Type 0
   RefusedAlone = (a : Answer) × ((pf : List ℕ) → Refused ob pf a)
 
   by-roots : WholeRecords 1024 ob → Header ob → ((i : ℕ) → 1 ≤ i → i ≤ countOf ob → WellFormedRecord 0 (alone ob) i) → WellFormedObligation ob ⊎ RefusedAlone
@@ -180,7 +184,7 @@ module _ (ob : List ℕ) where
       ))
       (scan-first (recordFault 0 (alone ob)) (countOf ob) 1)
 
-  obligation-case : WellFormedObligation ob ⊎ RefusedAlone
+  pub obligation-case : WellFormedObligation ob ⊎ RefusedAlone
   unfolding mostRecords ifEq
   obligation-case = go (lengthFits 0 ob) refl (headerFits ob) refl
     where
@@ -203,8 +207,9 @@ module _ (ob pf : List ℕ) (o : WellFormedObligation ob) where
   unfolding proofAnswer reading
   after-obligation a e h = stop-at _ _ a (after ob _ _ a (obligation-passes ob o) e) h
 
-  -- "root out of range": a record past the last, and 0, are no rule nodes
-  root-in : WholeRecords 3073 pf → ProofHeader ob pf → isRule 1 (beside ob pf (rootOf pf) 0) ≡ true → Root (beside ob pf) (rootOf pf) (countOf ob) (lastOf ob pf)
+  -- a root out of range: a record past the last, and 0, are no rule nodes
+  root-in : WholeRecords 3073 pf → ProofHeader ob pf → isRule 1 (beside ob pf (rootOf pf) 0) ≡ true →
+      Root (beside ob pf) (rootOf pf) (countOf ob) (lastOf ob pf)
   unfolding recordCount
   root-in w h t = record { after = low (rootOf pf) (rule-in _ t .least); inRange = high (ltb (lastOf ob pf) (rootOf pf)) refl; rule = rule-in _ t }
     where
@@ -262,7 +267,8 @@ module _ (ob pf : List ℕ) (o : WellFormedObligation ob) where
       (stop-at _ _ _ (placed-stop (countsFit ob pf) 2 2 0 (not-so _ (λ t. h (proof-header-in ob pf t))) (omega arith)) (omega arith))
 
   proof-record-stop : (i r : ℕ) → WholeRecords 3073 pf → ProofHeader ob pf → countOf ob + 1 ≤ i → i ≤ lastOf ob pf →
-      ((j : ℕ) → countOf ob + 1 ≤ j → j < i → WellFormedRecord 1 (beside ob pf) j) → First (recordTests 1 (beside ob pf) i) r → secondReading 1 ob pf ≡ answer r 2 i 0
+      ((j : ℕ) → countOf ob + 1 ≤ j → j < i → WellFormedRecord 1 (beside ob pf) j) → First (recordTests 1 (beside ob pf) i) r →
+      secondReading 1 ob pf ≡ answer r 2 i 0
   unfolding secondReading
   proof-record-stop i r w h p q none f =
       let some = record-first-given 1 (beside ob pf) i r f in
@@ -271,7 +277,8 @@ module _ (ob pf : List ℕ) (o : WellFormedObligation ob) where
       (scan-stop (recordFault 1 (beside ob pf)) 2 (countOf pf) (countOf ob + 1) i r p (omega arith)
       (λ l a b. faultless 1 (beside ob pf) (λ e. omega arith) l (omega arith) (none l a b)) (first-fault 1 (beside ob pf) (λ e. omega arith) i r f) some) some))
 
-  root-stop : WholeRecords 3073 pf → ProofHeader ob pf → Records → (Root (beside ob pf) (rootOf pf) (countOf ob) (lastOf ob pf) → ⊥) → secondReading 1 ob pf ≡ answer 11 2 0 0
+  root-stop : WholeRecords 3073 pf → ProofHeader ob pf → Records → (Root (beside ob pf) (rootOf pf) (countOf ob) (lastOf ob pf) → ⊥) →
+      secondReading 1 ob pf ≡ answer 11 2 0 0
   unfolding secondReading
   root-stop w h rs none =
       after ob _ _ _ (proof-length-pass w) (after ob _ _ _ (proof-header-pass h) (after ob _ _ _ (proof-records-pass rs)
@@ -300,7 +307,8 @@ module _ (ob pf : List ℕ) (o : WellFormedObligation ob) where
       go false b h = absurd (h refl)
 
   naming-stop : (i : ℕ) → WholeRecords 3073 pf → ProofHeader ob pf → Records → Root (beside ob pf) (rootOf pf) (countOf ob) (lastOf ob pf) →
-      countOf ob + 1 ≤ i → i ≤ lastOf ob pf → ((j : ℕ) → countOf ob + 1 ≤ j → j < i → NamedOnce ob pf j) → (NamedOnce ob pf i → ⊥) → secondReading 1 ob pf ≡ answer 12 2 i 0
+      countOf ob + 1 ≤ i → i ≤ lastOf ob pf → ((j : ℕ) → countOf ob + 1 ≤ j → j < i → NamedOnce ob pf j) → (NamedOnce ob pf i → ⊥) →
+      secondReading 1 ob pf ≡ answer 12 2 i 0
   unfolding secondReading unnamed
   naming-stop i w h rs r p q none this =
       after ob _ _ _ (proof-length-pass w) (after ob _ _ _ (proof-header-pass h) (after ob _ _ _ (proof-records-pass rs) (after ob _ _ _ (root-pass r)
@@ -308,7 +316,7 @@ module _ (ob pf : List ℕ) (o : WellFormedObligation ob) where
       (unnamed-twelve i (λ z. this (pass-named i z))) (omega arith)))))
 
   -- The proof is well formed, or the pair is refused at one of the proof's places.
-  abbrev RefusedPair : Type 0
+  abbrev pub RefusedPair : Type 0
   RefusedPair = (a : Answer) × Refused ob pf a
 
   by-naming : WholeRecords 3073 pf → ProofHeader ob pf → Records → Root (beside ob pf) (rootOf pf) (countOf ob) (lastOf ob pf) → WellFormed ob pf ⊎ RefusedPair
@@ -341,7 +349,7 @@ module _ (ob pf : List ℕ) (o : WellFormedObligation ob) where
       ))
       (scan-first (recordFault 1 (beside ob pf)) (countOf pf) (countOf ob + 1))
 
-  proof-case : WellFormed ob pf ⊎ RefusedPair
+  pub proof-case : WellFormed ob pf ⊎ RefusedPair
   unfolding mostRecords ifEq
   proof-case = go (lengthFits 1 pf) refl (countsFit ob pf) refl
     where
@@ -351,7 +359,7 @@ module _ (ob pf : List ℕ) (o : WellFormedObligation ob) where
       go true e true f = by-proof-records (whole-in 1 pf 3073 refl e) (proof-header-in ob pf f)
 
 -- What `Refused` says is the definition's answer, and a refusal.
-refused-gives : {ob pf : List ℕ} {a : Answer} → Refused ob pf a → (proofAnswer ob pf ≡ a) × (1 ≤ a .refusal)
+pub refused-gives : {ob pf : List ℕ} {a : Answer} → Refused ob pf a → (proofAnswer ob pf ≡ a) × (1 ≤ a .refusal)
 unfolding proofWalk
 refused-gives {ob} {pf} (Refused.obligation-length h) = (at-obligation ob pf _ (length-stop ob h) (omega arith), omega arith)
 refused-gives {ob} {pf} (Refused.obligation-header w h) = (at-obligation ob pf _ (header-stop ob w h) (omega arith), omega arith)
@@ -366,34 +374,4 @@ refused-gives {ob} {pf} (Refused.proof-root o w h rs none) = (after-obligation o
 refused-gives {ob} {pf} (Refused.naming {i = i} o w h rs r p q none this) =
     (after-obligation ob pf o _ (naming-stop ob pf o i w h rs r p q none this) (omega arith), omega arith)
 refused-gives {ob} {pf} (Refused.walk w s) =
-    let v = stops-out (beside ob pf) (head ob pf w) s in (answer-is ob pf (well-formed ob pf .1 w) ∙ v .0, v .1)
-
--- Every pair is accepted or refused.
-pub accepted-or-refused : (ob pf : List ℕ) → ((k : ℕ) × (WellFormed ob pf × RootProves ob pf k)) ⊎ ((a : Answer) × Refused ob pf a)
-unfolding proofWalk
-accepted-or-refused ob pf =
-    ⊎-elim (λ o. ⊎-elim (λ w. walked w (eqb (proofWalk (beside ob pf) (rootOf pf) .refusal) 0) refl) (λ r. inr r) (proof-case ob pf o))
-    (λ r. inr (r .0, r .1 pf)) (obligation-case ob)
-  where
-    walked : (w : WellFormed ob pf) (b : Bool) → eqb (proofWalk (beside ob pf) (rootOf pf) .refusal) 0 ≡ b →
-        ((k : ℕ) × (WellFormed ob pf × RootProves ob pf k)) ⊎ ((a : Answer) × Refused ob pf a)
-    walked w true e =
-        let same = answer-is ob pf (well-formed ob pf .1 w) in
-        let k = no-refusal ob pf (ap (λ (a : Answer). a .refusal) same ∙ eqb-true _ 0 e) in
-        inl (k .0, accepted-means ob pf (k .0) (k .1))
-    walked w false e =
-        inr (
-          proofWalk (beside ob pf) (rootOf pf),
-          Refused.walk w
-              (stops-in (beside ob pf) (head ob pf w) (rootOf pf) (w .proof .root .rule) (startSequent (beside ob pf)) 0 (eqb-false _ 0 e)),
-        )
-
--- A refusal is the definition's answer exactly where its place is the first that refuses, with what that place finds.
-pub refused-means : (ob pf : List ℕ) (a : Answer) → 1 ≤ a .refusal → (proofAnswer ob pf ≡ a) ↔ Refused ob pf a
-refused-means ob pf a some = (to, λ r. refused-gives r .0)
-  where
-    to : proofAnswer ob pf ≡ a → Refused ob pf a
-    to e =
-        ⊎-elim {C = Refused ob pf a}
-        (λ p. let z = ap (λ (x : Answer). x .refusal) (sym e ∙ means-accepted ob pf (p .0) (p .1 .0) (p .1 .1)) in absurd (omega arith))
-        (λ r. subst (Refused ob pf) (sym (refused-gives (r .1) .0) ∙ e) (r .1)) (accepted-or-refused ob pf)
+    let v = stops-out (beside ob pf) (head ob pf w) s in (answer-is ob pf (well-formed-out ob pf w) ∙ v .0, v .1)

@@ -9,14 +9,16 @@ use Rattle.reader.specs.Words.{Reader}
 use Rattle.reader.specs.Tests.{every}
 use Rattle.reader.specs.Trees.{Tree, tree}
 use Rattle.reader.specs.Chains.{parts, premises}
-use Rattle.reader.specs.Records.{kindFits, rangesFit, referencesFit, chainsFit, weightFits, nameStands, nameIsFree, typingFits}
+use Rattle.reader.specs.Records.{kindFits, rangesFit, referencesFit, chainsFit, weightFits, nameSpelled, nameIsFree, typingFits}
 use Rattle.reader.specs.Answers.{answer}
 use Rattle.reader.specs.Places.{rootOf, countOf}
 use Rattle.reader.specs.Shapes.{haveShapes}
 use Rattle.reader_laws.specs.File.{alone, beside, lastOf}
-use Rattle.proof_rules.specs.Check.{member, isFresh, rowOf, premisesFit, hasRoom, nodeFault, premiseSequent, startSequent}
+use Rattle.proof_rules.specs.Check.{rowOf, hasRoom, nodeFault, premiseSequent, startSequent}
+use Rattle.reader.specs.Members.{member, isFresh, premisesFit}
 use Rattle.proof_meaning.specs.Proves.{Proves}
-use Rattle.proof_meaning.specs.WellFormed.{WellFormedRecord, WholeRecords, Header, Goal, Hypotheses, RuleKind, Root, NamedOnce, ProofHeader, WellFormedObligation, WellFormed}
+use Rattle.proof_meaning.specs.WellFormed.{WellFormedRecord, WholeRecords, Header, Goal, Hypotheses, RuleKind, Root}
+use Rattle.proof_meaning.specs.WellFormed.{NamedOnce, ProofHeader, WellFormedObligation, WellFormed}
 
 -- a test, and the refusal where it fails
 pub record Test : Type 0 where
@@ -35,17 +37,17 @@ pub data First : List Test → ℕ → Type 0 where
 abbrev pub recordTests : ℕ → Reader → ℕ → List Test
 recordTests mode rd i =
     test (kindFits mode rd i) 3 ∷ test (rangesFit rd i) 4 ∷ test (referencesFit rd i) 5 ∷ test (chainsFit rd i) 6
-    ∷ test (weightFits mode rd i) 7 ∷ test (nameStands rd i) 8 ∷ test (nameIsFree rd i) 9 ∷ test (typingFits mode rd i) 10 ∷ []
+    ∷ test (weightFits mode rd i) 7 ∷ test (nameSpelled rd i) 8 ∷ test (nameIsFree rd i) 9 ∷ test (typingFits mode rd i) 10 ∷ []
 
 -- the tests of node n at the sequent Γ, in the order of their numbers
 abbrev pub nodeTests : Reader → List Tree → ℕ → List Test
 nodeTests rd Γ n =
-    test (haveShapes (rowOf rd n .shapes) (map (tree rd) (parts rd n))) 13 ∷ test (premisesFit rd n (length (rowOf rd n .adds))) 13
+    test (haveShapes (rowOf rd n .shapes) (map (tree rd) (parts rd n))) 13 ∷ test (premisesFit 1 rd n (length (rowOf rd n .adds))) 13
     ∷ test (every (λ t. member t Γ) (rowOf rd n .needs)) 14 ∷ test (rowOf rd n .fits) 15 ∷ test (every (isFresh Γ) (rowOf rd n .fresh)) 16
     ∷ test (hasRoom Γ (rowOf rd n .adds)) 17 ∷ []
 
--- "node, then premises in chain order": the walk of node n at the sequent Γ, after `count` nodes, stops with an answer: at the node itself, in its first premise, or
--- in its second, the first being a proof of its sequent by k nodes. No rule has a third.
+-- "node, then premises in chain order": the walk of node n at the sequent Γ, after `count` nodes, stops with an answer: at the node itself,
+-- in its first premise, or in its second, the first being a proof of its sequent by k nodes. No rule has a third.
 pub data Stops (rd : Reader) : List Tree → ℕ → ℕ → Answer → Type 0 where
   here : {Γ : List Tree} {n count r : ℕ} → RuleKind (rd n 0) → First (nodeTests rd Γ n) r → Stops rd Γ n count (answer r 2 n (count + 1))
   in-first : {Γ : List Tree} {n x count : ℕ} {xs : List ℕ} {a : Answer} →
@@ -54,7 +56,7 @@ pub data Stops (rd : Reader) : List Tree → ℕ → ℕ → Answer → Type 0 w
       nodeFault rd Γ n ≡ 0 → premises rd n ≡ x ∷ y ∷ xs → Proves rd (premiseSequent rd Γ n 0) x k →
       Stops rd (premiseSequent rd Γ n 1) y (count + 1 + k) a → Stops rd Γ n count a
 
--- The pair is refused with an answer. "Places go top to bottom, the obligation through all of its places first."
+-- The pair is refused with an answer. "Places go top to bottom, the obligation through all of its places first".
 pub data Refused (ob pf : List ℕ) : Answer → Type 0 where
   obligation-length : (WholeRecords 1024 ob → ⊥) → Refused ob pf (answer 1 1 0 0)
   obligation-header : WholeRecords 1024 ob → (Header ob → ⊥) → Refused ob pf (answer 2 1 0 0)

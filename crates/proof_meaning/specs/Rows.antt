@@ -1,7 +1,7 @@
 -- A node without a fault, column by column of its row, and the rules by their kind.
 use Prim.Native.Nat.{ℕ, _+_}
 use mathlib.Core.Path.{_≡_, refl}
-use mathlib.Core.List.{List, [], _++_, map}
+use mathlib.Core.List.{List, [], _∷_, _++_, map, append-assoc}
 use mathlib.Core.Bool.{Bool, true, false, false≢true}
 use mathlib.Core.Logic.{_⊎_, inl, inr, ⊎-elim}
 use lib.Dec.{eqb}
@@ -15,9 +15,10 @@ use Rattle.reader.specs.Chains.{parts, premises}
 use Rattle.reader.specs.Shapes.{haveShapes}
 use Rattle.reader_laws.specs.Scan.{both-parts, both-join, demand-parts, demand-join}
 use Rattle.proof_rules.specs.Rules.{Row, row}
-use Rattle.proof_rules.specs.Check.{rowOf, premisesFit, hasRoom, rowFault, nodeFault, premiseSequent}
-use Rattle.proof_meaning.specs.Facts.{_∈_, Every, Fresh}
-use Rattle.proof_meaning.specs.FactLaws.{every-in, every-out, member-in, member-out, fresh-in, fresh-out}
+use Rattle.proof_rules.specs.Check.{rowOf, hasRoom, rowFault, nodeFault, premiseSequent}
+use Rattle.reader.specs.Members.{_▹_, premisesFit}
+use Rattle.reader.specs.Notions.{_∈_, Every, Fresh}
+use Rattle.reader_laws.specs.NotionLaws.{every-in, every-out, member-in, member-out, fresh-in, fresh-out}
 use Rattle.proof_meaning.specs.Proves.{Fits}
 
 -- the trees of a node's parts
@@ -72,6 +73,10 @@ pub next-is : (rd : Reader) (Γ : List Tree) (n k : ℕ) (ps : List Tree) (b : �
     premiseSequent rd Γ n b ≡ Γ ++ getD (row k ps .adds) b []
 unfolding premiseSequent rowOf
 next-is rd Γ n k ps b ek ep = rw (ek, ep)
+
+-- two formulas added one after the other
+pub two-added : (Γ : List Tree) (P Q : Tree) → Γ ▹ P ▹ Q ≡ Γ ++ (P ∷ Q ∷ [])
+two-added Γ P Q = append-assoc Γ (P ∷ []) (Q ∷ [])
 
 -- a choice of a row that fits
 chosen : (k c : ℕ) (x y : Row) → ifEq k c x y .fits ≡ true → (k ≡ c) ⊎ (y .fits ≡ true)

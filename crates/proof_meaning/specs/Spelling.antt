@@ -5,7 +5,7 @@ use mathlib.Core.List.{List, [], _∷_}
 use Rattle.reader.specs.Words.{Reader}
 use Rattle.reader.specs.Chains.{linked}
 use Rattle.reader.specs.Names.{nameOf, nameBytes}
-use Rattle.proof_meaning.specs.Facts.{Every}
+use Rattle.reader.specs.Notions.{Every}
 
 -- "ASCII letters"
 pub data Letter (b : ℕ) : Type 0 where

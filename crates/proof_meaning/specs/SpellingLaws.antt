@@ -10,11 +10,12 @@ use borrow.Author.Tests.{eq-eqb, ne-eqb, eqb-true, eqb-false, not-true}
 use Rattle.reader.specs.Words.{Reader}
 use Rattle.reader.specs.Tests.{both, either, between, ifEq, ifTrue}
 use Rattle.reader.specs.Chains.{linked}
-use Rattle.reader.specs.Names.{nameOf, nameSpace, nameBytes, isLetter, isDigitOrUnderscore, single, accented, characters, name, hasBytes, startsWell, isName, sameName, takenBelow, nameTaken}
+use Rattle.reader.specs.Names.{nameOf, nameSpace, nameBytes, isLetter, isDigitOrUnderscore, single, accented, characters}
+use Rattle.reader.specs.Names.{name, hasBytes, startsWell, isName, sameName, takenBelow, nameTaken}
 use Rattle.reader_laws.specs.Scan.{both-parts, both-join, either-parts, between-parts, when-true, when-false, when-equal, when-different}
 use Rattle.reader_laws.specs.Record.{smaller-name-differs}
-use Rattle.proof_meaning.specs.Facts.{here, there, Every}
-use Rattle.proof_meaning.specs.FactLaws.{every-0, every-more, every-in, every-out, not-so, failed, either-first, either-second}
+use Rattle.reader.specs.Notions.{here, there, Every}
+use Rattle.reader_laws.specs.NotionLaws.{every-0, every-more, every-in, every-out, not-so, failed, either-first, either-second}
 use Rattle.proof_meaning.specs.Spelling.{Letter, DigitOrUnderscore, Accented, Spelled, SpelledName, GoodName, ConstantOrFunction, Symbol}
 use Rattle.proof_meaning.specs.TableLaws.{between-out}
 
@@ -204,7 +205,8 @@ unfolding isName name
 good-in rd i h =
     let p = both-parts _ _ h in
     let q = both-parts _ _ (p .1) in
-    let found : Found (name rd i) = every-in (λ c. not (eqb c 0)) (λ c. c ≡ 0 → ⊥) (λ c t z. failed (eqb c 0) (not-true _ t) (eq-eqb c 0 z)) (name rd i) (q .0) in
+    let given : (c : ℕ) → not (eqb c 0) ≡ true → c ≡ 0 → ⊥ = λ c t z. failed (eqb c 0) (not-true _ t) (eq-eqb c 0 z) in
+    let found : Found (name rd i) = every-in (λ c. not (eqb c 0)) (λ c. c ≡ 0 → ⊥) given (name rd i) (q .0) in
     record {
       noneEmpty = every-in (hasBytes rd) (λ j. rd j 1 ≡ 0 → rd j 2 ≡ 0 → ⊥) (bytes-in rd) _ (p .0);
       spelled = name-in (spelled-in (nameBytes rd (linked rd (nameOf rd i))) found) (q .1);

@@ -13,11 +13,11 @@ use Rattle.reader.specs.Tests.{demand, orElse, every, ifEq}
 use Rattle.reader.specs.Kinds.{isRule}
 use Rattle.reader.specs.Trees.{Tree, lower}
 use Rattle.reader.specs.Chains.{items, premises}
-use Rattle.reader.specs.Laws.{below, lower-below, items-end, items-more}
+use Rattle.reader.specs.TreeLaws.{below, lower-below, items-end, items-more}
 use Rattle.reader.specs.Records.{kindFits, rangesFit, referencesFit, chainsFit, wordsFault, contentFault, recordFault}
 use Rattle.reader.specs.Answers.{answer, accepted}
 use Rattle.reader.specs.Walk.{walkNode, walkLinks}
-use Rattle.reader.specs.Meaning.{node-go, node-stop, link-zero, link-go, link-stop}
+use Rattle.reader.specs.WalkLaws.{node-go, node-stop, link-zero, link-go, link-stop}
 use Rattle.reader_laws.specs.Scan.{every-head}
 use Rattle.proof_rules.specs.Rules.{row}
 use Rattle.proof_rules.specs.Check.{rowFault, nodeFault, premiseSequent}
@@ -178,7 +178,8 @@ module _ (rd : Reader) (head : rd 0 0 ≡ 1) where
       omega arith
 
   -- A node that passes its tests.
-  module _ (n : ℕ) (ih : (j : ℕ) → j < n → Stopping j) (k : RuleKind (rd n 0)) (Γ : List Tree) (count : ℕ) (h : visit n Γ count .refusal ≡ 0 → ⊥) (f : nodeFault rd Γ n ≡ 0) where
+  module _ (n : ℕ) (ih : (j : ℕ) → j < n → Stopping j) (k : RuleKind (rd n 0)) (Γ : List Tree) (count : ℕ)
+      (h : visit n Γ count .refusal ≡ 0 → ⊥) (f : nodeFault rd Γ n ≡ 0) where
     onward : visit n Γ count ≡ follow (lower rd n 2) n 0 Γ (count + 1)
     onward = node-go rd (nodeFault rd) (premiseSequent rd) n Γ count (real n k) f
 

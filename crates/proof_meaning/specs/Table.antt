@@ -4,13 +4,12 @@ use mathlib.Core.Path.{_≡_}
 use mathlib.Core.Logic.{_⊎_}
 use lib.ListN.{length}
 use Rattle.reader.specs.Words.{Reader}
-use Rattle.reader.specs.Kinds.{class}
-use Rattle.reader.specs.At.{classAt}
+use Rattle.reader.specs.Kinds.{class, classAt}
 use Rattle.reader.specs.Chains.{linked, items}
 use Rattle.reader.specs.Names.{nameOf}
-use Rattle.proof_meaning.specs.Facts.{Every}
+use Rattle.reader.specs.Notions.{Every}
 
--- References: "Every reference points to a smaller record number."
+-- References: "Every reference points to a smaller record number".
 
 -- word w of record i names a record
 pub record NamesAny (rd : Reader) (i w : ℕ) : Type 0 where

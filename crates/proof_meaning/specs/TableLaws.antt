@@ -8,17 +8,18 @@ use native.Mathlib.Omega.{arith}
 use borrow.Author.Tests.{eq-eqb, eqb-true, eqb-false, lt-ltb, ltb-true, le-leb, leb-true}
 use Rattle.reader.specs.Words.{Reader}
 use Rattle.reader.specs.Tests.{both, between, every, ifEq, ifLt}
-use Rattle.reader.specs.Kinds.{class, isRule, isKind, role, ruleRole}
-use Rattle.reader.specs.At.{classAt, roleAt}
+use Rattle.reader.specs.KindLaws.{ruleRole, rule-role}
+use Rattle.reader.specs.Kinds.{class, isRule, isKind, role, classAt, roleAt}
 use Rattle.reader.specs.Trees.{lower}
 use Rattle.reader.specs.Chains.{items}
 use Rattle.reader.specs.Weight.{isWeighed}
 use Rattle.reader.specs.Names.{nameOf}
-use Rattle.reader.specs.Records.{inRange, rangeAt, mayBeZero, wantedClass, itemClass, hasClass, itemsHaveClass, refers, refersAt, nameFits, typesFit, argumentsFit, chainsOf}
+use Rattle.reader.specs.Records.{inRange, rangeAt, mayBeZero, wantedClass, itemClass, hasClass, itemsHaveClass, refers, refersAt}
+use Rattle.reader.specs.Records.{nameLengthFits, typesFit, argumentsFit, itemChainsFit}
 use Rattle.reader_laws.specs.Scan.{both-parts, both-join, between-parts, when-less, when-not-less, when-equal, when-different}
 use Rattle.reader_laws.specs.Record.{role-known}
 use Rattle.reader_laws.specs.Parts.{lower-zero}
-use Rattle.proof_meaning.specs.FactLaws.{every-in, every-out}
+use Rattle.reader_laws.specs.NotionLaws.{every-in, every-out}
 use Rattle.proof_meaning.specs.Spelling.{ConstantOrFunction, Symbol}
 use Rattle.proof_meaning.specs.Table.{NamesAny, Names, MayName, NamesChain, MayNameChain, Entry, ChainLengths, Weighed}
 
@@ -28,7 +29,8 @@ module _ (a i : ℕ) (x y : Bool) where
   unfolding ifEq
   must-in h = go (eqb a 0) refl h
     where
-      go : (b : Bool) → eqb a 0 ≡ b → _≡_ {A = Bool} (elim b [ true ↦ false | false ↦ both (ltb a i) (both x y) ]) true → (1 ≤ a) × (a < i) × (x ≡ true) × (y ≡ true)
+      go : (b : Bool) → eqb a 0 ≡ b → _≡_ {A = Bool} (elim b [ true ↦ false | false ↦ both (ltb a i) (both x y) ]) true →
+          (1 ≤ a) × (a < i) × (x ≡ true) × (y ≡ true)
       go true e h = absurd (false≢true h)
       go false e h =
           let p = both-parts _ _ h in
@@ -273,8 +275,9 @@ least c k h = go (eqb k c) refl
 
 -- what holds of each of the kinds 1 to 22
 by-kind : {C : Type 0} (k : ℕ) → 1 ≤ k → k ≤ 22 →
-    (k ≡ 1 → C) → (k ≡ 2 → C) → (k ≡ 3 → C) → (k ≡ 4 → C) → (k ≡ 5 → C) → (k ≡ 6 → C) → (k ≡ 7 → C) → (k ≡ 8 → C) → (k ≡ 9 → C) → (k ≡ 10 → C) → (k ≡ 11 → C) →
-    (k ≡ 12 → C) → (k ≡ 13 → C) → (k ≡ 14 → C) → (k ≡ 15 → C) → (k ≡ 16 → C) → (k ≡ 17 → C) → (k ≡ 18 → C) → (k ≡ 19 → C) → (k ≡ 20 → C) → (k ≡ 21 → C) → (k ≡ 22 → C) → C
+    (k ≡ 1 → C) → (k ≡ 2 → C) → (k ≡ 3 → C) → (k ≡ 4 → C) → (k ≡ 5 → C) → (k ≡ 6 → C) → (k ≡ 7 → C) → (k ≡ 8 → C) →
+    (k ≡ 9 → C) → (k ≡ 10 → C) → (k ≡ 11 → C) → (k ≡ 12 → C) → (k ≡ 13 → C) → (k ≡ 14 → C) → (k ≡ 15 → C) →
+    (k ≡ 16 → C) → (k ≡ 17 → C) → (k ≡ 18 → C) → (k ≡ 19 → C) → (k ≡ 20 → C) → (k ≡ 21 → C) → (k ≡ 22 → C) → C
 by-kind k low high k1 k2 k3 k4 k5 k6 k7 k8 k9 k10 k11 k12 k13 k14 k15 k16 k17 k18 k19 k20 k21 k22 =
     ⊎-elim k1 (λ h.
     ⊎-elim k2 (λ h.
@@ -316,38 +319,43 @@ module _ (mode : ℕ) (rd : Reader) (i : ℕ) (fits : (w : ℕ) → 1 ≤ w → 
   fit-3 : Fit rd i 3
   fit-3 = fits 3 (omega arith) (omega arith)
 
+  -- the role of word w where the kind is k
+  is : (w k : ℕ) → rd i 0 ≡ k → roleAt rd i w ≡ role k w
+  is w k e = role-known rd i w k e
+
   table-in : 1 ≤ rd i 0 → rd i 0 ≤ 22 → Entry mode rd i
-  unfolding role ifLt
+  unfolding role ifLt ifEq
   table-in low high =
       by-kind (rd i 0) low high
-      (λ e. Entry.link e (any-in rd i 1 (role-known rd i 1 1 e) fit-1) (zero-in rd i 2 (role-known rd i 2 1 e) fit-2) (next-link-in rd i 3 (role-known rd i 3 1 e) fit-3))
-      (λ e. Entry.name-record e (next-name-in rd i 3 (role-known rd i 3 2 e) fit-3))
-      (λ e. Entry.given-type e (name-in rd i 1 (role-known rd i 1 3 e) fit-1) (zero-in rd i 2 (role-known rd i 2 3 e) fit-2) (zero-in rd i 3 (role-known rd i 3 3 e) fit-3))
-      (λ e. Entry.set-type e (type-in rd i 1 (role-known rd i 1 4 e) fit-1) (zero-in rd i 2 (role-known rd i 2 4 e) fit-2) (zero-in rd i 3 (role-known rd i 3 4 e) fit-3))
-      (λ e. Entry.pair-type e (type-in rd i 1 (role-known rd i 1 5 e) fit-1) (type-in rd i 2 (role-known rd i 2 5 e) fit-2) (zero-in rd i 3 (role-known rd i 3 5 e) fit-3))
-      (λ e. Entry.type-variable e (three-in rd i 1 (role-known rd i 1 6 e) fit-1) (zero-in rd i 2 (role-known rd i 2 6 e) fit-2) (zero-in rd i 3 (role-known rd i 3 6 e) fit-3))
-      (λ e. Entry.constant e (type-in rd i 1 (role-known rd i 1 7 e) fit-1) (name-in rd i 2 (role-known rd i 2 7 e) fit-2) (zero-in rd i 3 (role-known rd i 3 7 e) fit-3))
-      (λ e. Entry.function e (signature-in rd i 1 (role-known rd i 1 8 e) fit-1) (four-in rd i 2 (role-known rd i 2 8 e) fit-2) (name-in rd i 3 (role-known rd i 3 8 e) fit-3))
-      (λ e. Entry.bound-variable e (index-in rd i 1 (role-known rd i 1 9 e) fit-1) (type-in rd i 2 (role-known rd i 2 9 e) fit-2) (zero-in rd i 3 (role-known rd i 3 9 e) fit-3))
-      (λ e. Entry.pair e (term-in rd i 1 (role-known rd i 1 10 e) fit-1) (term-in rd i 2 (role-known rd i 2 10 e) fit-2) (type-in rd i 3 (role-known rd i 3 10 e) fit-3))
-      (λ e. Entry.product e (term-in rd i 1 (role-known rd i 1 11 e) fit-1) (term-in rd i 2 (role-known rd i 2 11 e) fit-2) (type-in rd i 3 (role-known rd i 3 11 e) fit-3))
-      (λ e. Entry.powerset e (term-in rd i 1 (role-known rd i 1 12 e) fit-1) (type-in rd i 2 (role-known rd i 2 12 e) fit-2) (zero-in rd i 3 (role-known rd i 3 12 e) fit-3))
-      (λ e. Entry.application e (function-in rd i 1 (role-known rd i 1 13 e) fit-1) (types-in rd i 2 (role-known rd i 2 13 e) fit-2) (terms-in rd i 3 (role-known rd i 3 13 e) fit-3))
-      (λ e. Entry.falsity e (zero-in rd i 1 (role-known rd i 1 14 e) fit-1) (zero-in rd i 2 (role-known rd i 2 14 e) fit-2) (zero-in rd i 3 (role-known rd i 3 14 e) fit-3))
-      (λ e. Entry.truth e (zero-in rd i 1 (role-known rd i 1 15 e) fit-1) (zero-in rd i 2 (role-known rd i 2 15 e) fit-2) (zero-in rd i 3 (role-known rd i 3 15 e) fit-3))
-      (λ e. Entry.conjunction e (formula-in rd i 1 (role-known rd i 1 16 e) fit-1) (formula-in rd i 2 (role-known rd i 2 16 e) fit-2) (zero-in rd i 3 (role-known rd i 3 16 e) fit-3))
-      (λ e. Entry.implication e (formula-in rd i 1 (role-known rd i 1 17 e) fit-1) (formula-in rd i 2 (role-known rd i 2 17 e) fit-2) (zero-in rd i 3 (role-known rd i 3 17 e) fit-3))
-      (λ e. Entry.negation e (formula-in rd i 1 (role-known rd i 1 18 e) fit-1) (zero-in rd i 2 (role-known rd i 2 18 e) fit-2) (zero-in rd i 3 (role-known rd i 3 18 e) fit-3))
-      (λ e. Entry.universal e (type-in rd i 1 (role-known rd i 1 19 e) fit-1) (formula-in rd i 2 (role-known rd i 2 19 e) fit-2) (zero-in rd i 3 (role-known rd i 3 19 e) fit-3))
-      (λ e. Entry.equation e (term-in rd i 1 (role-known rd i 1 20 e) fit-1) (term-in rd i 2 (role-known rd i 2 20 e) fit-2) (zero-in rd i 3 (role-known rd i 3 20 e) fit-3))
-      (λ e. Entry.membership e (term-in rd i 1 (role-known rd i 1 21 e) fit-1) (term-in rd i 2 (role-known rd i 2 21 e) fit-2) (zero-in rd i 3 (role-known rd i 3 21 e) fit-3))
-      (λ e. Entry.for-all-types e (count-in rd i 1 (role-known rd i 1 22 e) fit-1 .0) (count-in rd i 1 (role-known rd i 1 22 e) fit-1 .1) (formula-in rd i 2 (role-known rd i 2 22 e) fit-2) (zero-in rd i 3 (role-known rd i 3 22 e) fit-3))
+      (λ e. Entry.link e (any-in rd i 1 (is 1 1 e) fit-1) (zero-in rd i 2 (is 2 1 e) fit-2) (next-link-in rd i 3 (is 3 1 e) fit-3))
+      (λ e. Entry.name-record e (next-name-in rd i 3 (is 3 2 e) fit-3))
+      (λ e. Entry.given-type e (name-in rd i 1 (is 1 3 e) fit-1) (zero-in rd i 2 (is 2 3 e) fit-2) (zero-in rd i 3 (is 3 3 e) fit-3))
+      (λ e. Entry.set-type e (type-in rd i 1 (is 1 4 e) fit-1) (zero-in rd i 2 (is 2 4 e) fit-2) (zero-in rd i 3 (is 3 4 e) fit-3))
+      (λ e. Entry.pair-type e (type-in rd i 1 (is 1 5 e) fit-1) (type-in rd i 2 (is 2 5 e) fit-2) (zero-in rd i 3 (is 3 5 e) fit-3))
+      (λ e. Entry.type-variable e (three-in rd i 1 (is 1 6 e) fit-1) (zero-in rd i 2 (is 2 6 e) fit-2) (zero-in rd i 3 (is 3 6 e) fit-3))
+      (λ e. Entry.constant e (type-in rd i 1 (is 1 7 e) fit-1) (name-in rd i 2 (is 2 7 e) fit-2) (zero-in rd i 3 (is 3 7 e) fit-3))
+      (λ e. Entry.function e (signature-in rd i 1 (is 1 8 e) fit-1) (four-in rd i 2 (is 2 8 e) fit-2) (name-in rd i 3 (is 3 8 e) fit-3))
+      (λ e. Entry.bound-variable e (index-in rd i 1 (is 1 9 e) fit-1) (type-in rd i 2 (is 2 9 e) fit-2) (zero-in rd i 3 (is 3 9 e) fit-3))
+      (λ e. Entry.pair e (term-in rd i 1 (is 1 10 e) fit-1) (term-in rd i 2 (is 2 10 e) fit-2) (type-in rd i 3 (is 3 10 e) fit-3))
+      (λ e. Entry.product e (term-in rd i 1 (is 1 11 e) fit-1) (term-in rd i 2 (is 2 11 e) fit-2) (type-in rd i 3 (is 3 11 e) fit-3))
+      (λ e. Entry.powerset e (term-in rd i 1 (is 1 12 e) fit-1) (type-in rd i 2 (is 2 12 e) fit-2) (zero-in rd i 3 (is 3 12 e) fit-3))
+      (λ e. Entry.application e (function-in rd i 1 (is 1 13 e) fit-1) (types-in rd i 2 (is 2 13 e) fit-2) (terms-in rd i 3 (is 3 13 e) fit-3))
+      (λ e. Entry.falsity e (zero-in rd i 1 (is 1 14 e) fit-1) (zero-in rd i 2 (is 2 14 e) fit-2) (zero-in rd i 3 (is 3 14 e) fit-3))
+      (λ e. Entry.truth e (zero-in rd i 1 (is 1 15 e) fit-1) (zero-in rd i 2 (is 2 15 e) fit-2) (zero-in rd i 3 (is 3 15 e) fit-3))
+      (λ e. Entry.conjunction e (formula-in rd i 1 (is 1 16 e) fit-1) (formula-in rd i 2 (is 2 16 e) fit-2) (zero-in rd i 3 (is 3 16 e) fit-3))
+      (λ e. Entry.implication e (formula-in rd i 1 (is 1 17 e) fit-1) (formula-in rd i 2 (is 2 17 e) fit-2) (zero-in rd i 3 (is 3 17 e) fit-3))
+      (λ e. Entry.negation e (formula-in rd i 1 (is 1 18 e) fit-1) (zero-in rd i 2 (is 2 18 e) fit-2) (zero-in rd i 3 (is 3 18 e) fit-3))
+      (λ e. Entry.universal e (type-in rd i 1 (is 1 19 e) fit-1) (formula-in rd i 2 (is 2 19 e) fit-2) (zero-in rd i 3 (is 3 19 e) fit-3))
+      (λ e. Entry.equation e (term-in rd i 1 (is 1 20 e) fit-1) (term-in rd i 2 (is 2 20 e) fit-2) (zero-in rd i 3 (is 3 20 e) fit-3))
+      (λ e. Entry.membership e (term-in rd i 1 (is 1 21 e) fit-1) (term-in rd i 2 (is 2 21 e) fit-2) (zero-in rd i 3 (is 3 21 e) fit-3))
+      (λ e. let c = count-in rd i 1 (is 1 22 e) fit-1 in
+      Entry.for-all-types e (c .0) (c .1) (formula-in rd i 2 (is 2 22 e) fit-2) (zero-in rd i 3 (is 3 22 e) fit-3))
 
   rule-in : mode ≡ 1 → between 32 46 (rd i 0) ≡ true → Entry mode rd i
-  unfolding role ruleRole
+  unfolding role ifEq ifLt
   rule-in m h =
       let b = between-parts 32 46 (rd i 0) h in
-      let rule : (w : ℕ) → roleAt rd i w ≡ ruleRole w = λ w. role-known rd i w (rd i 0) refl ∙ when-not-less _ (ruleRole w) (rd i 0) 32 (b .0) in
+      let rule : (w : ℕ) → roleAt rd i w ≡ ruleRole w = λ w. role-known rd i w (rd i 0) refl ∙ rule-role (rd i 0) (b .0) w in
       Entry.rule-node m (b .0) (b .1) (rule-chain-in rd i 1 (rule 1) fit-1) (rule-chain-in rd i 2 (rule 2) fit-2) (zero-in rd i 3 (rule 3) fit-3)
 
   pub entry-in : isKind mode (rd i 0) ≡ true → (mode ≡ 2 → ⊥) → Entry mode rd i
@@ -356,8 +364,10 @@ module _ (mode : ℕ) (rd : Reader) (i : ℕ) (fits : (w : ℕ) → 1 ≤ w → 
     where
       go : (a : Bool) → ltb (rd i 0) 23 ≡ a → (b : Bool) → eqb mode 1 ≡ b → (c : Bool) → eqb mode 2 ≡ c →
           _≡_ {A = Bool}
-          (elim a [ true ↦ ltb 0 (rd i 0) | false ↦ elim b [ true ↦ between 32 46 (rd i 0) | false ↦ elim c [ true ↦ between 64 80 (rd i 0) | false ↦ false ] ] ])
-          true → Entry mode rd i
+          (elim a [
+            | true ↦ ltb 0 (rd i 0)
+            | false ↦ elim b [ true ↦ between 32 46 (rd i 0) | false ↦ elim c [ true ↦ between 64 80 (rd i 0) | false ↦ false ] ]
+          ]) true → Entry mode rd i
       go true ea b eb c ec h = let l = ltb-true (rd i 0) 23 ea in table-in (ltb-true 0 (rd i 0) h) (omega arith)
       go false ea true eb c ec h = rule-in (eqb-true mode 1 eb) h
       go false ea false eb true ec h = absurd (other (eqb-true mode 2 ec))
@@ -372,7 +382,7 @@ three-words rd i a b c (suc (suc (suc zero))) p q = c
 three-words rd i a b c (suc (suc (suc (suc w)))) p q = absurd (omega arith)
 
 pub entry-out : {mode : ℕ} {rd : Reader} {i : ℕ} → Entry mode rd i → (w : ℕ) → 1 ≤ w → w ≤ 3 → Fit rd i w
-unfolding role ifLt ruleRole
+unfolding role ifLt ifEq
 entry-out {mode} {rd} {i} (Entry.link e x y z) =
     three-words rd i (any-out rd i 1 (role-known rd i 1 1 e) x) (zero-out rd i 2 (role-known rd i 2 1 e) y) (next-link-out rd i 3 (role-known rd i 3 1 e) z)
 entry-out {mode} {rd} {i} (Entry.name-record e x) =
@@ -398,15 +408,18 @@ entry-out {mode} {rd} {i} (Entry.product e x y z) =
 entry-out {mode} {rd} {i} (Entry.powerset e x y z) =
     three-words rd i (term-out rd i 1 (role-known rd i 1 12 e) x) (type-out rd i 2 (role-known rd i 2 12 e) y) (zero-out rd i 3 (role-known rd i 3 12 e) z)
 entry-out {mode} {rd} {i} (Entry.application e x y z) =
-    three-words rd i (function-out rd i 1 (role-known rd i 1 13 e) x) (types-out rd i 2 (role-known rd i 2 13 e) y) (terms-out rd i 3 (role-known rd i 3 13 e) z)
+    three-words rd i (function-out rd i 1 (role-known rd i 1 13 e) x) (types-out rd i 2 (role-known rd i 2 13 e) y)
+    (terms-out rd i 3 (role-known rd i 3 13 e) z)
 entry-out {mode} {rd} {i} (Entry.falsity e x y z) =
     three-words rd i (zero-out rd i 1 (role-known rd i 1 14 e) x) (zero-out rd i 2 (role-known rd i 2 14 e) y) (zero-out rd i 3 (role-known rd i 3 14 e) z)
 entry-out {mode} {rd} {i} (Entry.truth e x y z) =
     three-words rd i (zero-out rd i 1 (role-known rd i 1 15 e) x) (zero-out rd i 2 (role-known rd i 2 15 e) y) (zero-out rd i 3 (role-known rd i 3 15 e) z)
 entry-out {mode} {rd} {i} (Entry.conjunction e x y z) =
-    three-words rd i (formula-out rd i 1 (role-known rd i 1 16 e) x) (formula-out rd i 2 (role-known rd i 2 16 e) y) (zero-out rd i 3 (role-known rd i 3 16 e) z)
+    three-words rd i (formula-out rd i 1 (role-known rd i 1 16 e) x) (formula-out rd i 2 (role-known rd i 2 16 e) y)
+    (zero-out rd i 3 (role-known rd i 3 16 e) z)
 entry-out {mode} {rd} {i} (Entry.implication e x y z) =
-    three-words rd i (formula-out rd i 1 (role-known rd i 1 17 e) x) (formula-out rd i 2 (role-known rd i 2 17 e) y) (zero-out rd i 3 (role-known rd i 3 17 e) z)
+    three-words rd i (formula-out rd i 1 (role-known rd i 1 17 e) x) (formula-out rd i 2 (role-known rd i 2 17 e) y)
+    (zero-out rd i 3 (role-known rd i 3 17 e) z)
 entry-out {mode} {rd} {i} (Entry.negation e x y z) =
     three-words rd i (formula-out rd i 1 (role-known rd i 1 18 e) x) (zero-out rd i 2 (role-known rd i 2 18 e) y) (zero-out rd i 3 (role-known rd i 3 18 e) z)
 entry-out {mode} {rd} {i} (Entry.universal e x y z) =
@@ -416,9 +429,10 @@ entry-out {mode} {rd} {i} (Entry.equation e x y z) =
 entry-out {mode} {rd} {i} (Entry.membership e x y z) =
     three-words rd i (term-out rd i 1 (role-known rd i 1 21 e) x) (term-out rd i 2 (role-known rd i 2 21 e) y) (zero-out rd i 3 (role-known rd i 3 21 e) z)
 entry-out {mode} {rd} {i} (Entry.for-all-types e x y z u) =
-    three-words rd i (count-out rd i 1 (role-known rd i 1 22 e) x y) (formula-out rd i 2 (role-known rd i 2 22 e) z) (zero-out rd i 3 (role-known rd i 3 22 e) u)
+    three-words rd i (count-out rd i 1 (role-known rd i 1 22 e) x y) (formula-out rd i 2 (role-known rd i 2 22 e) z)
+    (zero-out rd i 3 (role-known rd i 3 22 e) u)
 entry-out {mode} {rd} {i} (Entry.rule-node m low high x y z) =
-    let rule : (w : ℕ) → roleAt rd i w ≡ ruleRole w = λ w. role-known rd i w (rd i 0) refl ∙ when-not-less _ (ruleRole w) (rd i 0) 32 low in
+    let rule : (w : ℕ) → roleAt rd i w ≡ ruleRole w = λ w. role-known rd i w (rd i 0) refl ∙ rule-role (rd i 0) low w in
     three-words rd i (rule-chain-out rd i 1 (rule 1) x) (rule-chain-out rd i 2 (rule 2) y) (zero-out rd i 3 (rule 3) z)
 
 pub entry-kind : {mode : ℕ} {rd : Reader} {i : ℕ} → Entry mode rd i → isKind mode (rd i 0) ≡ true
@@ -450,8 +464,8 @@ entry-kind {mode} {rd} {i} (Entry.rule-node m low high x y z) =
     ∙ ap (λ (o : ℕ). isRule o (rd i 0)) m ∙ between-out 32 46 (rd i 0) low high
 
 -- chain lengths
-pub chains-in : (rd : Reader) (i : ℕ) → nameFits rd i ≡ true → chainsOf rd i ≡ true → ChainLengths rd i
-unfolding nameFits chainsOf typesFit argumentsFit
+pub chains-in : (rd : Reader) (i : ℕ) → nameLengthFits rd i ≡ true → itemChainsFit rd i ≡ true → ChainLengths rd i
+unfolding nameLengthFits itemChainsFit typesFit argumentsFit
 chains-in rd i n h =
     let other : rd i 0 ≡ 13 → rd i 0 ≡ 8 → ⊥ = λ p q. omega arith in
     let applied : rd i 0 ≡ 13 → both (typesFit rd (rd i 2)) (argumentsFit rd (rd i 3)) ≡ true =
@@ -463,16 +477,20 @@ chains-in rd i n h =
       applicationArguments = λ e. leb-true _ 4 (both-parts _ _ (applied e) .1);
     }
 
-pub name-fits : (rd : Reader) (i : ℕ) → ChainLengths rd i → nameFits rd i ≡ true
-unfolding nameFits
+pub name-fits : (rd : Reader) (i : ℕ) → ChainLengths rd i → nameLengthFits rd i ≡ true
+unfolding nameLengthFits
 name-fits rd i c = le-leb _ 4 (c .nameRecords)
 
-pub chains-out : (rd : Reader) (i : ℕ) → ChainLengths rd i → chainsOf rd i ≡ true
-unfolding chainsOf typesFit argumentsFit ifEq
+pub chains-out : (rd : Reader) (i : ℕ) → ChainLengths rd i → itemChainsFit rd i ≡ true
+unfolding itemChainsFit typesFit argumentsFit ifEq
 chains-out rd i c = go (eqb (rd i 0) 8) refl (eqb (rd i 0) 13) refl
   where
     go : (a : Bool) → eqb (rd i 0) 8 ≡ a → (b : Bool) → eqb (rd i 0) 13 ≡ b →
-        _≡_ {A = Bool} (elim a [ true ↦ typesFit rd (rd i 1) | false ↦ elim b [ true ↦ both (typesFit rd (rd i 2)) (argumentsFit rd (rd i 3)) | false ↦ true ] ]) true
+        _≡_ {A = Bool}
+        (elim a [
+          | true ↦ typesFit rd (rd i 1)
+          | false ↦ elim b [ true ↦ both (typesFit rd (rd i 2)) (argumentsFit rd (rd i 3)) | false ↦ true ]
+        ]) true
     go true p b q = let t = c .functionTypes (eqb-true _ 8 p) in between-out 1 5 _ (t .0) (t .1)
     go false p true q =
         let e = eqb-true _ 13 q in
@@ -493,7 +511,11 @@ unfolding isWeighed ifEq
 weighed-in k h = go (eqb (class k) 3) refl (eqb (class k) 4) refl (eqb (class k) 5) refl (eqb (class k) 7) refl h
   where
     go : (a : Bool) → eqb (class k) 3 ≡ a → (b : Bool) → eqb (class k) 4 ≡ b → (c : Bool) → eqb (class k) 5 ≡ c → (d : Bool) → eqb (class k) 7 ≡ d →
-        _≡_ {A = Bool} (elim a [ true ↦ true | false ↦ elim b [ true ↦ true | false ↦ elim c [ true ↦ true | false ↦ elim d [ true ↦ true | false ↦ false ] ] ] ]) true → Weighed k
+        _≡_ {A = Bool}
+        (elim a [
+          | true ↦ true
+          | false ↦ elim b [ true ↦ true | false ↦ elim c [ true ↦ true | false ↦ elim d [ true ↦ true | false ↦ false ] ] ]
+        ]) true → Weighed k
     go true p b q c r d s h = Weighed.type (eqb-true _ 3 p)
     go false p true q c r d s h = Weighed.term (eqb-true _ 4 q)
     go false p false q true r d s h = Weighed.formula (eqb-true _ 5 r)
@@ -523,7 +545,7 @@ module _ (rd : Reader) (i : ℕ) (fits : (w : ℕ) → 1 ≤ w → w ≤ 3 → F
 
   -- the words of an application are references to smaller records, or 0
   pub application-words : rd i 0 ≡ 13 → (lower rd i 1 ≡ rd i 1) × (lower rd i 2 ≡ rd i 2) × (lower rd i 3 ≡ rd i 3)
-  unfolding role ifLt lower
+  unfolding role ifLt lower ifEq
   application-words e =
       let f = function-in rd i 1 (role-known rd i 1 13 e) (fits 1 (omega arith) (omega arith)) in
       let t = types-in rd i 2 (role-known rd i 2 13 e) (fits 2 (omega arith) (omega arith)) in

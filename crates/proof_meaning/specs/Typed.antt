@@ -8,8 +8,8 @@ use Rattle.reader.specs.Trees.{Tree, leaf, node, tree, ∀ᵗ, _=ᵗ_, setᵗ, 
 use Rattle.reader.specs.Chains.{itemTrees}
 use Rattle.reader.specs.Variables.{instance}
 use Rattle.reader.specs.Typing.{typeOf, signature}
-use Rattle.proof_meaning.specs.Facts.{Every, TypesBelow, Bears}
-use Rattle.proof_meaning.specs.Proves.{constantᵗ}
+use Rattle.reader.specs.Notions.{Every, TypesBelow, Bears}
+use Rattle.proof_meaning.specs.Signs.{constantᵗ}
 
 -- "an application fits its signature with the type arguments put in": its own type, its type arguments as many as the function's parameters, and own type and
 -- arguments' types the signature's, one by one

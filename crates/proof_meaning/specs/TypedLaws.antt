@@ -12,11 +12,12 @@ use Rattle.reader.specs.Tests.{both, ifEq}
 use Rattle.reader.specs.Trees.{Tree, leaf, node, lower, child, tree, kindOf, firstOf, secondOf, thirdOf, same, setᵗ, pairᵗ}
 use Rattle.reader.specs.Chains.{itemTrees}
 use Rattle.reader.specs.Variables.{typesBelow, instance}
-use Rattle.reader.specs.Laws.{tree-zero, tree-step, same-equal, same-self}
-use Rattle.reader.specs.Typing.{typeOf, sameAll, pairTyped, productTyped, powersetTyped, equalTyped, memberTyped, forAllTyped, constantTyped, signature, functionTyped, applicationTyped, isTyped}
+use Rattle.reader.specs.TreeLaws.{tree-zero, tree-step, same-equal, same-self}
+use Rattle.reader.specs.Typing.{typeOf, sameAll, pairTyped, productTyped, powersetTyped, equalTyped, memberTyped, forAllTyped}
+use Rattle.reader.specs.Typing.{constantTyped, signature, functionTyped, applicationTyped, isTyped}
 use Rattle.reader_laws.specs.Scan.{both-parts, both-join}
-use Rattle.proof_meaning.specs.Facts.{TypesBelow}
-use Rattle.proof_meaning.specs.FactLaws.{every-in, every-out, types-in, types-out, bears-in, bears-out}
+use Rattle.reader.specs.Notions.{TypesBelow}
+use Rattle.reader_laws.specs.NotionLaws.{every-in, every-out, types-in, types-out, bears-in, bears-out}
 use Rattle.proof_meaning.specs.Forms.{kind-is, constant-made, pair-made, product-made, powerset-made, for-all-made, equal-made, member-made, set-made}
 use Rattle.proof_meaning.specs.Typed.{Applied, Typed}
 

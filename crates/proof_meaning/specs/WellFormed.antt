@@ -12,7 +12,7 @@ use Rattle.reader.specs.Weight.{weight}
 use Rattle.reader.specs.Names.{name}
 use Rattle.reader.specs.Places.{hypothesisChain, negatedGoal, rootOf, countOf, namings}
 use Rattle.reader_laws.specs.File.{alone, beside, lastOf}
-use Rattle.proof_meaning.specs.Facts.{Every, IsFormula, IndicesBelow, TypesBelow, Closed}
+use Rattle.reader.specs.Notions.{Every, IsFormula, NoIndex, TypesBelow, Closed}
 use Rattle.proof_meaning.specs.Table.{Entry, ChainLengths, Weighed}
 use Rattle.proof_meaning.specs.Spelling.{GoodName, ConstantOrFunction, Symbol}
 use Rattle.proof_meaning.specs.Typed.{Typed}
@@ -49,7 +49,7 @@ pub record Goal (rd : Reader) (m : ℕ) : Type 0 where
 -- A hypothesis is a closed formula, or a kind 22 without unbound indices, its type variables below its count.
 pub data Hypothesis (t : Tree) : Type 0 where
   formula : IsFormula t → Closed t → Hypothesis t
-  for-all-types : kindOf t ≡ 22 → IndicesBelow 0 t → TypesBelow (atomOf t) t → Hypothesis t
+  for-all-types : kindOf t ≡ 22 → NoIndex t → TypesBelow (atomOf t) t → Hypothesis t
 
 -- The hypotheses are a chain in the obligation's m records, or 0 for none; "over 256 hypotheses" is refused.
 pub record Hypotheses (rd : Reader) (m : ℕ) : Type 0 where

@@ -1,19 +1,18 @@
 -- A sequent with a member added.
-use Prim.Native.Nat.{ℕ, _+_, _<_, _≤_}
+use Prim.Native.Nat.{ℕ, _+_, _<_}
 use mathlib.Core.Path.{_≡_, refl, sym, ap, _∙_}
 use mathlib.Core.List.{List, [], _∷_, _++_, map, map-append}
 use mathlib.Core.Bool.{Bool, true, false}
 use lib.Dec.{ltb}
 use lib.ListN.{length, take, getD, set, length-set}
-use lib.Seq.{take-suc-set, take-take, take-set-le, getD-set-same, getD-set-other, getD-take}
+use lib.Seq.{take-suc-set, take-set-le, getD-set-same, getD-set-other, getD-take}
 use native.Mathlib.Numerals.{add-one}
 use native.Mathlib.Omega.{arith}
 use borrow.Author.Tests.{ltb-true, ltb-false}
 use Rattle.reader.specs.Words.{Reader}
 use Rattle.reader.specs.Trees.{Tree}
 use Rattle.proof_members.specs.Keys.{decoded, Normal, Stands}
-use Rattle.proof_members.specs.Makers.{Table}
-use Rattle.proof_members.specs.Sequents.{sequent, Keys, Ready, in-memory}
+use Rattle.proof_members.specs.Sequents.{sequent, Ready}
 
 -- after t was added to the h members of a memory
 pub record Added (rd : Reader) (numbers before : List ℕ) (h : ℕ) (t : Tree) (after : List ℕ) : Type 0 where

@@ -1,6 +1,6 @@
 -- A member of a sequent as one number, its key: whether it is a negation; whether what is negated, or it itself, is an equation; and the numbers of the
 -- records of the one or two trees. Equal members have equal keys, so that no formula is built and none is compared node by node.
-use Prim.Native.Nat.{ℕ, zero, suc, _+_, _*_, _/_, _%_, _<_, _≤_}
+use Prim.Native.Nat.{ℕ, _/_, _%_, _<_}
 use mathlib.Core.Path.{_≡_, refl, sym, ap, _∙_}
 use mathlib.Core.Bool.{Bool, true, false, false≢true}
 use lib.Dec.{eqb}
@@ -8,8 +8,8 @@ use native.Mathlib.Omega.{arith}
 use borrow.Author.Tests.{eq-eqb, ne-eqb, eqb-true, eqb-false}
 use Rattle.reader.specs.Words.{Reader}
 use Rattle.reader.specs.Tests.{ifEq}
-use Rattle.reader.specs.Trees.{Tree, leaf, node, tree, same, kindOf, firstOf, secondOf, ¬ᵗ_, _=ᵗ_}
-use Rattle.reader.specs.Laws.{same-equal, same-self}
+use Rattle.reader.specs.Trees.{Tree, node, tree, same, kindOf, firstOf, secondOf, ¬ᵗ_, _=ᵗ_}
+use Rattle.reader.specs.TreeLaws.{same-equal, same-self}
 use Rattle.reader_equality.specs.Least.{least, least-equal}
 
 -- of a body's key: 1 for an equation, its left tree or the one tree, its right tree

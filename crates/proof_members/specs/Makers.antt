@@ -5,11 +5,11 @@ use mathlib.Core.List.{List}
 use lib.ListN.{length}
 use native.Mathlib.Omega.{arith}
 use Rattle.reader.specs.Words.{Reader}
-use Rattle.reader.specs.Trees.{Tree, leaf, node, child, tree, kindOf, ¬ᵗ_, _=ᵗ_}
-use Rattle.reader.specs.Laws.{child-below}
+use Rattle.reader.specs.Trees.{Tree, child, tree, kindOf, ¬ᵗ_, _=ᵗ_}
+use Rattle.reader.specs.TreeLaws.{child-below}
 use Rattle.reader_chains.specs.Shapes.{kind-zero, kind-tree, not-tree, equal-tree}
 use Rattle.reader_equality.specs.Least.{least, Numbered, least-most, least-tree, least-least, least-zero}
-use Rattle.proof_members.specs.Keys.{equationOf, rightOf, leftOf, body, decoded, NormalBody, Normal, Stands, body-equation, body-single, decoded-negation, decoded-plain}
+use Rattle.proof_members.specs.Keys.{equationOf, rightOf, leftOf, body, NormalBody, Stands, body-equation, body-single, decoded-negation, decoded-plain}
 
 -- a table of the numbers of at most 4,096 records
 pub record Table (rd : Reader) (numbers : List ℕ) : Type 0 where

@@ -1,21 +1,21 @@
 -- The signs ⊥ and ⊤ as members, which need not be any record.
-use Prim.Native.Nat.{ℕ, _+_, _*_, _/_, _%_, _<_, _≤_}
+use Prim.Native.Nat.{ℕ, _+_, _/_, _%_, _<_}
 use mathlib.Core.Path.{_≡_, refl, sym, ap, _∙_}
 use mathlib.Core.List.{List}
 use mathlib.Core.Bool.{Bool, true, false, false≢true}
 use lib.Dec.{eqb}
 use lib.ListN.{length, getD}
 use native.Mathlib.Omega.{arith}
-use borrow.Author.Tests.{eq-eqb, ne-eqb, eqb-true, eqb-false}
+use borrow.Author.Tests.{eq-eqb, ne-eqb, eqb-true}
 use Rattle.reader.specs.Words.{Reader}
 use Rattle.reader.specs.Tests.{both, ifEq}
-use Rattle.reader.specs.Trees.{Tree, leaf, node, tree, same, kindOf, firstOf, ¬ᵗ_, ⊥ᵗ, ⊤ᵗ, _=ᵗ_}
-use Rattle.reader.specs.Laws.{same-equal, same-self}
-use Rattle.proof_rules.specs.Check.{member}
+use Rattle.reader.specs.Trees.{Tree, leaf, node, tree, same, kindOf, firstOf, ¬ᵗ_, ⊥ᵗ, ⊤ᵗ}
+use Rattle.reader.specs.TreeLaws.{same-equal, same-self}
+use Rattle.reader.specs.Members.{member}
 use Rattle.reader_chains.specs.Shapes.{kind-tree, false-tree, true-tree}
-use Rattle.proof_members.specs.Keys.{by-one, equationOf, rightOf, leftOf, body, decoded, NormalBody, Normal, body-equation, body-single, decoded-negation, decoded-plain}
+use Rattle.proof_members.specs.Keys.{by-one, equationOf, leftOf, body, decoded, Normal, body-equation, body-single, decoded-negation, decoded-plain}
 use Rattle.proof_members.specs.Makers.{kind-given}
-use Rattle.proof_members.specs.Sequents.{sequent, Keys, Ready, membersFrom, in-memory, member-found, member-more}
+use Rattle.proof_members.specs.Sequents.{sequent, Ready, membersFrom, in-memory, member-found, member-more}
 
 -- the sign of a kind without parts, or ¬ before it
 unfoldable pub sign : ℕ → ℕ → Tree

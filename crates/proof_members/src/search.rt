@@ -6,7 +6,7 @@ ghost use Prim.Native.Nat.{_<_};
 ghost use lib.ListN.{length};
 ghost use Rattle.reader.specs.Words.{word};
 ghost use Rattle.reader.specs.Trees.{tree, _=ᵗ_, ¬ᵗ_, ⊥ᵗ, ⊤ᵗ};
-ghost use Rattle.proof_rules.specs.Check.{member};
+ghost use Rattle.reader.specs.Members.{member};
 ghost use Rattle.proof_members.specs.Keys.{decoded, Normal};
 ghost use Rattle.proof_members.specs.Sequents.{sequent, Ready};
 ghost use Rattle.proof_members.specs.Signs.{sign, isSign, Sign};

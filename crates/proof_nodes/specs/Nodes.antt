@@ -1,21 +1,22 @@
 -- A node's tests in the order in which the code makes them, and the ways out of that code.
-use Prim.Native.Nat.{ℕ, zero, suc, _+_, _<_, _≤_}
+use Prim.Native.Nat.{ℕ, _+_, _<_, _≤_}
 use mathlib.Core.Path.{_≡_, refl, sym, ap, _∙_}
 use mathlib.Core.List.{List, [], _∷_, map}
 use mathlib.Core.Bool.{Bool, true, false}
-use lib.Dec.{eqb, ltb, leb}
-use lib.ListN.{getD, length}
+use lib.Dec.{ltb, leb}
+use lib.ListN.{length}
 use native.Mathlib.Omega.{arith}
 use borrow.Author.Tests.{eq-eqb, ne-eqb, lt-ltb, le-ltb, ltb-false, le-leb}
 use Rattle.reader.specs.Words.{Reader}
-use Rattle.reader.specs.Tests.{both, demand, orElse, every, ifEq, ifLt}
-use Rattle.reader.specs.Trees.{Tree, leaf, atom, tree, atomOf}
+use Rattle.reader.specs.Tests.{demand, orElse, every, ifEq, ifLt}
+use Rattle.reader.specs.Trees.{Tree, atom, tree, atomOf}
 use Rattle.reader.specs.Chains.{parts}
 use Rattle.reader.specs.Shapes.{haveShapes}
-use Rattle.proof_rules.specs.Rules.{Row, at, row, noRow}
+use Rattle.proof_rules.specs.Rules.{row}
 use Rattle.proof_rules.specs.RowLaws.{NoRule, row-none, by-rule}
-use Rattle.proof_rules.specs.Check.{member, isFresh, rowOf, premisesFit, hasRoom, rowFault, nodeFault}
-use Rattle.reader.specs.Laws.{tree-zero}
+use Rattle.proof_rules.specs.Check.{rowOf, hasRoom, rowFault, nodeFault}
+use Rattle.reader.specs.Members.{member, isFresh, premisesFit, part}
+use Rattle.reader.specs.TreeLaws.{tree-zero}
 use Rattle.reader_chains.specs.Shapes.{atom-tree}
 use Rattle.proof_members.specs.Sequents.{sequent, Ready, sequent-length, in-memory}
 use Rattle.proof_rows.specs.Paths.{partRecord, partTrees, part-tree}
@@ -39,7 +40,7 @@ roomFor h k = leb (h + mostAdded k) 1024
 unfoldable pub formFault : Reader → List Tree → ℕ → ℕ
 formFault rd s n =
     demand (haveShapes (rowOf rd n .shapes) (map (tree rd) (parts rd n))) 13
-    (demand (premisesFit rd n (length (rowOf rd n .adds))) 13 (demand (needsHold rd s n) 14 0))
+    (demand (premisesFit 1 rd n (length (rowOf rd n .adds))) 13 (demand (needsHold rd s n) 14 0))
 
 unfoldable pub fitFault : Reader → List Tree → ℕ → ℕ
 fitFault rd s n =
@@ -50,7 +51,7 @@ fitFault rd s n =
 pub both-faults : (rd : Reader) (s : List Tree) (n : ℕ) → orElse (formFault rd s n) (fitFault rd s n) ≡ nodeFault rd s n
 unfolding nodeFault rowFault formFault needsHold fitFault demand orElse
 both-faults rd s n =
-    go (haveShapes (rowOf rd n .shapes) (map (tree rd) (parts rd n))) (premisesFit rd n (length (rowOf rd n .adds)))
+    go (haveShapes (rowOf rd n .shapes) (map (tree rd) (parts rd n))) (premisesFit 1 rd n (length (rowOf rd n .adds)))
     (every (λ t. member t s) (rowOf rd n .needs))
   where
     go : (a b c : Bool) → orElse (demand a 13 (demand b 13 (demand c 14 0))) (fitFault rd s n) ≡ demand a 13 (demand b 13 (demand c 14 (fitFault rd s n)))
@@ -72,7 +73,7 @@ module _ (rd : Reader) (i : ℕ) where
   atom-some h a e = e ∙ sym (atom-tree rd i (omega arith))
 
 -- the constant of rule 43, and none of another
-fresh-43 : (ps : List Tree) → row 43 ps .fresh ≡ atomOf (at ps 1) ∷ []
+fresh-43 : (ps : List Tree) → row 43 ps .fresh ≡ atomOf (part ps 1) ∷ []
 unfolding row ifEq
 fresh-43 ps = refl
 
@@ -103,9 +104,9 @@ module _ (rd : Reader) (s : List Tree) (n k : ℕ) (ek : k ≡ rd n 0) where
   pub fresh-constant : k ≡ 43 → (p c : ℕ) (r : Bool) → p ≡ partRecord rd n 1 → c ≡ atomOf (tree rd p) → r ≡ isFresh s c → r ≡ every (isFresh s) (rowOf rd n .fresh)
   unfolding rowOf every partTrees
   fresh-constant h p c r ep ec e =
-      let own : atomOf (at (partTrees rd n) 1) ≡ c = ap atomOf (part-tree rd n 1 ∙ ap (tree rd) (sym ep)) ∙ sym ec in
+      let own : atomOf (part (partTrees rd n) 1) ≡ c = ap atomOf (part-tree rd n 1 ∙ ap (tree rd) (sym ep)) ∙ sym ec in
       rw (← ek, h, fresh-43 (map (tree rd) (parts rd n)))
-      (e ∙ ap (isFresh s) (sym own) ∙ sym (once (isFresh s (atomOf (at (partTrees rd n) 1)))))
+      (e ∙ ap (isFresh s) (sym own) ∙ sym (once (isFresh s (atomOf (part (partTrees rd n) 1)))))
 
 -- a rule without premises, and no rule, ask no room
 most-none : (k : ℕ) → NoRule k → mostAdded k ≡ 0

@@ -14,7 +14,8 @@ ghost use Rattle.reader.specs.Tests.{every};
 ghost use Rattle.reader.specs.Trees.{tree, atomOf};
 ghost use Rattle.reader_closedness.specs.Reaches.{Reached};
 ghost use Rattle.proof_rules.specs.Rules.{Row};
-ghost use Rattle.proof_rules.specs.Check.{isFresh, rowOf, nodeFault};
+ghost use Rattle.proof_rules.specs.Check.{rowOf, nodeFault};
+ghost use Rattle.reader.specs.Members.{isFresh};
 ghost use Rattle.proof_members.specs.Sequents.{sequent};
 ghost use Rattle.proof_nodes.specs.Nodes.{mostAdded, roomFor, formFault, fitFault, At};
 

@@ -7,9 +7,9 @@ use native.Mathlib.Omega.{arith}
 use borrow.Author.Tests.{ne-eqb, eq-eqb}
 use Rattle.reader.specs.Words.{Reader}
 use Rattle.reader.specs.Tests.{both}
-use Rattle.reader.specs.Trees.{Tree, node, child, atom, tree, same, sameHead}
+use Rattle.reader.specs.Trees.{Tree, node, child, atom, tree, same}
 use Rattle.reader.specs.Variables.{binders, isIndex, replaced, indicesBelow}
-use Rattle.reader.specs.Laws.{tree-zero, tree-step, child-below}
+use Rattle.reader.specs.TreeLaws.{tree-zero, tree-step, child-below}
 use Rattle.reader.specs.SameLaws.{sameHeadAt}
 use Rattle.reader_closedness.specs.Reach.{replaced-closed}
 

@@ -7,7 +7,7 @@ use Rattle.reader.specs.Words.{Reader}
 use Rattle.reader.specs.Tests.{both, ifTrue}
 use Rattle.reader.specs.Trees.{child, tree, same}
 use Rattle.reader.specs.Variables.{bears, indicesBelow}
-use Rattle.reader.specs.Laws.{tree-step}
+use Rattle.reader.specs.TreeLaws.{tree-step}
 use Rattle.reader_closedness.specs.Reach.{bears-node, bears-closed}
 use Rattle.proof_replacement.specs.Fits.{indexAt, deeper, open-positive}
 

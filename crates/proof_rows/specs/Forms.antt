@@ -1,15 +1,14 @@
 -- The members that rules name, as numbers.
 use Prim.Native.Nat.{ℕ, _-_, _/_, _%_, _<_, _≤_}
-use mathlib.Core.Path.{_≡_, refl, sym, ap, _∙_}
+use mathlib.Core.Path.{_≡_, refl}
 use mathlib.Core.List.{List, [], _∷_, _++_}
 use mathlib.Core.Bool.{Bool, true, false}
-use lib.Dec.{eqb, ltb}
-use native.Mathlib.Omega.{arith}
+use lib.Dec.{eqb}
 use borrow.Author.Tests.{eq-eqb, ne-eqb, lt-ltb, le-ltb}
 use Rattle.reader.specs.Words.{Reader}
 use Rattle.reader.specs.Tests.{both, every, ifEq, ifLt}
 use Rattle.reader.specs.Trees.{Tree, tree, ⊥ᵗ, ⊤ᵗ, ¬ᵗ_, _=ᵗ_}
-use Rattle.proof_rules.specs.Check.{member}
+use Rattle.reader.specs.Members.{member}
 use Rattle.proof_rows.specs.Paths.{pathTree, pathRecord, partTrees, path-tree}
 
 -- the paths of ¬(t=u)'s two terms: of the part t=u the second and the first, or of parts 1 and 2

@@ -11,8 +11,7 @@ use borrow.Author.Tests.{eq-eqb, ne-eqb}
 use Rattle.reader.specs.Words.{Reader}
 use Rattle.reader.specs.Tests.{ifEq}
 use Rattle.reader.specs.Trees.{Tree, tree, ¬ᵗ_, _=ᵗ_}
-use Rattle.proof_rules.specs.Rules.{Row}
-use Rattle.proof_rules.specs.Check.{rowOf, premiseSequent}
+use Rattle.proof_rules.specs.Check.{rowOf}
 use Rattle.proof_members.specs.Sequents.{sequent, Ready}
 use Rattle.proof_members.specs.Added.{Added}
 use Rattle.proof_rows.specs.Paths.{pathRecord, partTrees}

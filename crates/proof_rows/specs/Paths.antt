@@ -11,8 +11,8 @@ use Rattle.reader.specs.Words.{Reader}
 use Rattle.reader.specs.Tests.{ifEq}
 use Rattle.reader.specs.Trees.{Tree, leaf, lower, child, tree, firstOf, secondOf}
 use Rattle.reader.specs.Chains.{itemTrees, parts}
-use Rattle.reader.specs.Laws.{child-below, lower-below, tree-zero}
-use Rattle.proof_rules.specs.Rules.{at}
+use Rattle.reader.specs.TreeLaws.{child-below, lower-below, tree-zero}
+use Rattle.reader.specs.Members.{part}
 use Rattle.reader_chains.specs.Shapes.{lower-zero, child-zero, first-tree, second-tree}
 use Rattle.reader_chains.specs.Chains.{linkAt, itemAt, link-none, link-first, link-next, item-tree, item-past}
 
@@ -21,7 +21,7 @@ unfoldable pub stepTree : ℕ → Tree → Tree
 stepTree a t = ifEq a 0 t (ifEq a 1 (firstOf t) (secondOf t))
 
 unfoldable pub pathTree : List Tree → ℕ → Tree
-pathTree ps p = stepTree (p % 3) (stepTree (p / 3 % 3) (at ps (p / 9)))
+pathTree ps p = stepTree (p % 3) (stepTree (p / 3 % 3) (part ps (p / 9)))
 
 -- the same as records
 unfoldable pub stepRecord : Reader → ℕ → ℕ → ℕ
@@ -38,7 +38,7 @@ unfoldable pub partTrees : Reader → ℕ → List Tree
 partTrees rd n = map (tree rd) (parts rd n)
 
 -- part j is the tree of its record
-pub part-tree : (rd : Reader) (n j : ℕ) → at (partTrees rd n) j ≡ tree rd (partRecord rd n j)
+pub part-tree : (rd : Reader) (n j : ℕ) → part (partTrees rd n) j ≡ tree rd (partRecord rd n j)
 unfolding partTrees parts partRecord itemTrees itemAt
 part-tree rd n j = go (eqb (linkAt rd (lower rd n 1) j) 0) refl
   where

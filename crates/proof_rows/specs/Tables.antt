@@ -1,18 +1,18 @@
 -- The forms of what each rule needs and adds, as tables, and that the rows say the same.
 use Prim.Native.Nat.{ℕ, zero, suc, _+_, _*_, _-_, _<_, _≤_}
-use mathlib.Core.Path.{_≡_, refl, sym, ap, _∙_}
-use mathlib.Core.List.{List, [], _∷_, map}
-use mathlib.Core.Bool.{Bool, true, false}
-use lib.Dec.{eqb, ltb}
+use mathlib.Core.Path.{_≡_, refl, sym, _∙_}
+use mathlib.Core.List.{List, [], _∷_}
+use mathlib.Core.Bool.{Bool}
 use lib.ListN.{getD, length}
 use native.Mathlib.Omega.{arith}
-use borrow.Author.Tests.{lt-ltb, le-ltb, ltb-true, ltb-false}
+use borrow.Author.Tests.{lt-ltb, le-ltb}
 use Rattle.reader.specs.Words.{Reader}
 use Rattle.reader.specs.Tests.{both, every, ifEq, ifLt}
-use Rattle.reader.specs.Trees.{Tree, tree}
-use Rattle.proof_rules.specs.Rules.{Row, row, noRow}
-use Rattle.proof_rules.specs.RowLaws.{NoRule, row-none, by-rule}
-use Rattle.proof_rules.specs.Check.{member, rowOf}
+use Rattle.reader.specs.Trees.{Tree}
+use Rattle.proof_rules.specs.Rules.{row}
+use Rattle.proof_rules.specs.RowLaws.{row-none, by-rule}
+use Rattle.proof_rules.specs.Check.{rowOf}
+use Rattle.reader.specs.Members.{member}
 use Rattle.proof_forms.specs.Tables.{ruleEntry, entry-none}
 use Rattle.proof_rows.specs.Paths.{stepTree, pathTree, partTrees}
 use Rattle.proof_rows.specs.Forms.{leftPath, rightPath, formTree, needTree, oneTree, twoTrees, needHolds, two-hold}

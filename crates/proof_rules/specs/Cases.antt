@@ -5,7 +5,9 @@ use mathlib.Core.List.{List, [], _∷_, map}
 use lib.ListN.{set, take}
 use Rattle.reader.specs.declared.Answer.{Answer}
 use Rattle.reader.specs.Answers.{answer}
-use Rattle.proof_rules.specs.Files.{Words, r, bytes, Case, gives, answersOf}
+use Rattle.reader.specs.Examples.{Words, r, bytes, Case, gives, answersOf}
+use Rattle.proof_rules.specs.Check.{proofAnswer}
+use Rattle.proof_rules.specs.Opened.{openProofs}
 
 abbrev obligation1 : List Words
 obligation1 = r 1 6 0 6 ∷ r 2 83 0 0 ∷ r 3 1 0 0 ∷ r 9 0 2 0 ∷ r 20 3 3 0 ∷ r 19 2 4 0 ∷ r 18 5 0 0 ∷ []
@@ -40,7 +42,7 @@ proof12 =
 
 -- a proof of D1's obligation, and the answer
 abbrev case1 : List ℕ → Answer → Case
-case1 proof expected = record { obligation = bytes obligation1; proof = proof; answer = expected }
+case1 proof expected = record { obligation = bytes obligation1; second = proof; answer = expected }
 
 abbrev pub table : List Case
 table =
@@ -55,9 +57,9 @@ table =
     case1 (bytes (with 7 (r 2 35267 0 0))) (answer 0 0 0 2) ∷  -- D9 record 7 is 2,35267,0,0 (C3 89)
     case1 (bytes (with 7 (r 2 8506437 0 0))) (answer 8 2 8 0) ∷  -- D10 record 7 is 2,8506437,0,0 (45 CC 81)
     case1 (take 15 (bytes proof1)) (answer 1 2 0 0) ∷  -- D11 proof of 15 bytes
-    record { obligation = bytes obligation12; proof = bytes proof12; answer = answer 16 2 17 1 } ∷ []  -- D12
+    record { obligation = bytes obligation12; second = bytes proof12; answer = answer 16 2 17 1 } ∷ []  -- D12
 
 -- The definition's answers, one after the other, are the table's.
-pub cases-hold : answersOf table ≡ map gives table
-unfolding answersOf
+pub cases-hold : answersOf proofAnswer table ≡ map gives table
+unfolding openProofs
 cases-hold = refl

@@ -1,6 +1,6 @@
 pub mod Rules
 pub mod Check
 pub mod RowLaws
-pub mod Files
+pub mod Opened
 pub mod Cases
 pub mod Traps

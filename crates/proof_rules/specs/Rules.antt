@@ -1,12 +1,13 @@
 -- The proof rules, kinds 32 to 46, as rows of the paper's table: parts, what must be in the sequent, what each premise adds.
 use Prim.Native.Nat.{ℕ}
 use mathlib.Core.List.{List, [], _∷_}
-use mathlib.Core.Bool.{Bool, true, false}
-use lib.ListN.{getD, drop, replicate}
+use mathlib.Core.Bool.{Bool, false}
+use lib.ListN.{drop, replicate}
 use Rattle.reader.specs.Tests.{both, every, ifEq}
-use Rattle.reader.specs.Trees.{Tree, leaf, node, atomOf, firstOf, secondOf, same, ⊥ᵗ, ⊤ᵗ, ¬ᵗ_, _=ᵗ_}
+use Rattle.reader.specs.Trees.{Tree, atomOf, firstOf, secondOf, same, ⊥ᵗ, ⊤ᵗ, ¬ᵗ_, _=ᵗ_}
 use Rattle.reader.specs.Variables.{replaced, bears, indicesBelow, isClosed, instance}
 use Rattle.reader.specs.Typing.{typeOf}
+use Rattle.reader.specs.Members.{part}
 use Rattle.reader.specs.Shapes.{Shape, negated, type, term, formula, constant, conjunction, implication, universal, equation, forAllTypes}
 
 pub record Row : Type 0 where
@@ -25,154 +26,98 @@ pub record Row : Type 0 where
 abbrev pub areClosed : List Tree → Bool
 areClosed ps = every isClosed ps
 
--- part j
-abbrev pub at : List Tree → ℕ → Tree
-at ps j = getD ps j leaf
+-- a row without a fresh constant
+abbrev pub rule : List Shape → List Tree → Bool → List (List Tree) → Row
+rule shapes needs fits adds = record { shapes = shapes; needs = needs; fits = fits; fresh = []; adds = adds }
 
--- ⊥
-abbrev pub row32 : List Tree → Row
-row32 ps = record { shapes = []; needs = ⊥ᵗ ∷ []; fits = areClosed ps; fresh = []; adds = [] }
+-- A rule that shows P and Q, or t and u, under the sign of its one part: the part, "it", and the two letters.
+abbrev letters : List Tree → (Tree → Tree → Tree → Row) → Row
+letters ps row = row (part ps 0) (firstOf (part ps 0)) (secondOf (part ps 0))
 
--- ¬⊤
-abbrev pub row33 : List Tree → Row
-row33 ps = record { shapes = []; needs = ¬ᵗ ⊤ᵗ ∷ []; fits = areClosed ps; fresh = []; adds = [] }
+-- the same where the sign stands under ¬
+abbrev letters¬ : List Tree → (Tree → Tree → Tree → Row) → Row
+letters¬ ps row = row (part ps 0) (firstOf (firstOf (part ps 0))) (secondOf (firstOf (part ps 0)))
 
--- P: P, ¬P
-abbrev pub row34 : List Tree → Row
-row34 ps = record { shapes = formula ∷ []; needs = at ps 0 ∷ ¬ᵗ (at ps 0) ∷ []; fits = areClosed ps; fresh = []; adds = [] }
+-- The rows, with the trees of a node's parts: what the paper's line says stands before each.
+module _ (ps : List Tree) where
+  -- none: ⊥
+  abbrev pub row32 : Row
+  row32 = rule [] (⊥ᵗ ∷ []) (areClosed ps) []
 
--- ¬(t=t)
-abbrev pub row35 : List Tree → Row
-row35 ps = record {
-  shapes = negated equation ∷ [];
-  needs = at ps 0 ∷ [];
-  fits = both (areClosed ps) (same (firstOf (firstOf (at ps 0))) (secondOf (firstOf (at ps 0))));
-  fresh = [];
-  adds = [];
-}
+  -- none: ¬⊤
+  abbrev pub row33 : Row
+  row33 = rule [] (¬ᵗ ⊤ᵗ ∷ []) (areClosed ps) []
 
--- t=u: t=u, ¬(u=t)
-abbrev pub row36 : List Tree → Row
-row36 ps = record {
-  shapes = equation ∷ [];
-  needs = at ps 0 ∷ ¬ᵗ (secondOf (at ps 0) =ᵗ firstOf (at ps 0)) ∷ [];
-  fits = areClosed ps;
-  fresh = [];
-  adds = [];
-}
+  -- P: P, ¬P
+  abbrev pub row34 : Row
+  row34 = rule (formula ∷ []) (part ps 0 ∷ ¬ᵗ (part ps 0) ∷ []) (areClosed ps) []
 
--- P: adds P / ¬P
-abbrev pub row37 : List Tree → Row
-row37 ps = record {
-  shapes = formula ∷ [];
-  needs = [];
-  fits = areClosed ps;
-  fresh = [];
-  adds = (at ps 0 ∷ []) ∷ (¬ᵗ (at ps 0) ∷ []) ∷ [];
-}
+  -- ¬(t=t): it
+  abbrev pub row35 : Row
+  row35 = letters¬ ps (λ it t u. rule (negated equation ∷ []) (it ∷ []) (both (areClosed ps) (same t u)) [])
 
--- ¬¬P: adds P
-abbrev pub row38 : List Tree → Row
-row38 ps = record {
-  shapes = negated (negated formula) ∷ [];
-  needs = at ps 0 ∷ [];
-  fits = areClosed ps;
-  fresh = [];
-  adds = (firstOf (firstOf (at ps 0)) ∷ []) ∷ [];
-}
+  -- t=u: it, ¬(u=t)
+  abbrev pub row36 : Row
+  row36 = letters ps (λ it t u. rule (equation ∷ []) (it ∷ ¬ᵗ (u =ᵗ t) ∷ []) (areClosed ps) [])
 
--- P∧Q: adds P, Q
-abbrev pub row39 : List Tree → Row
-row39 ps = record {
-  shapes = conjunction ∷ [];
-  needs = at ps 0 ∷ [];
-  fits = areClosed ps;
-  fresh = [];
-  adds = (firstOf (at ps 0) ∷ secondOf (at ps 0) ∷ []) ∷ [];
-}
+  -- P: nothing; P / ¬P
+  abbrev pub row37 : Row
+  row37 = rule (formula ∷ []) [] (areClosed ps) ((part ps 0 ∷ []) ∷ (¬ᵗ (part ps 0) ∷ []) ∷ [])
 
--- ¬(P⇒Q): adds P, ¬Q
-abbrev pub row40 : List Tree → Row
-row40 ps = record {
-  shapes = negated implication ∷ [];
-  needs = at ps 0 ∷ [];
-  fits = areClosed ps;
-  fresh = [];
-  adds = (firstOf (firstOf (at ps 0)) ∷ ¬ᵗ (secondOf (firstOf (at ps 0))) ∷ []) ∷ [];
-}
+  -- ¬¬P: it; P
+  abbrev pub row38 : Row
+  row38 = letters¬ ps (λ it P _. rule (negated (negated formula) ∷ []) (it ∷ []) (areClosed ps) ((P ∷ []) ∷ []))
 
--- P⇒Q: adds ¬P / Q
-abbrev pub row41 : List Tree → Row
-row41 ps = record {
-  shapes = implication ∷ [];
-  needs = at ps 0 ∷ [];
-  fits = areClosed ps;
-  fresh = [];
-  adds = (¬ᵗ (firstOf (at ps 0)) ∷ []) ∷ (secondOf (at ps 0) ∷ []) ∷ [];
-}
+  -- P∧Q: it; P, Q
+  abbrev pub row39 : Row
+  row39 = letters ps (λ it P Q. rule (conjunction ∷ []) (it ∷ []) (areClosed ps) ((P ∷ Q ∷ []) ∷ []))
 
--- ¬(P∧Q): adds ¬P / ¬Q
-abbrev pub row42 : List Tree → Row
-row42 ps = record {
-  shapes = negated conjunction ∷ [];
-  needs = at ps 0 ∷ [];
-  fits = areClosed ps;
-  fresh = [];
-  adds = (¬ᵗ (firstOf (firstOf (at ps 0))) ∷ []) ∷ (¬ᵗ (secondOf (firstOf (at ps 0))) ∷ []) ∷ [];
-}
+  -- ¬(P⇒Q): it; P, ¬Q
+  abbrev pub row40 : Row
+  row40 = letters¬ ps (λ it P Q. rule (negated implication ∷ []) (it ∷ []) (areClosed ps) ((P ∷ ¬ᵗ Q ∷ []) ∷ []))
 
--- ¬∀B, constant c, B(c): adds ¬B(c), c fresh; "c bears the type of the place"
-abbrev pub row43 : List Tree → Row
-row43 ps = record {
-  shapes = negated universal ∷ constant ∷ formula ∷ [];
-  needs = at ps 0 ∷ [];
-  fits =
-      both (areClosed ps)
-      (both (same (typeOf (at ps 1)) (firstOf (firstOf (at ps 0)))) (same (at ps 2) (replaced 0 (at ps 1) (secondOf (firstOf (at ps 0))))));
-  fresh = atomOf (at ps 1) ∷ [];
-  adds = (¬ᵗ (at ps 2) ∷ []) ∷ [];
-}
+  -- P⇒Q: it; ¬P / Q
+  abbrev pub row41 : Row
+  row41 = letters ps (λ it P Q. rule (implication ∷ []) (it ∷ []) (areClosed ps) ((¬ᵗ P ∷ []) ∷ (Q ∷ []) ∷ []))
 
--- ∀B, term t, B(t): adds B(t); "t bears the type of the place"
-abbrev pub row44 : List Tree → Row
-row44 ps = record {
-  shapes = universal ∷ term ∷ formula ∷ [];
-  needs = at ps 0 ∷ [];
-  fits =
-      both (areClosed ps)
-      (both (same (typeOf (at ps 1)) (firstOf (at ps 0))) (same (at ps 2) (replaced 0 (at ps 1) (secondOf (at ps 0)))));
-  fresh = [];
-  adds = (at ps 2 ∷ []) ∷ [];
-}
+  -- ¬(P∧Q): it; ¬P / ¬Q
+  abbrev pub row42 : Row
+  row42 = letters¬ ps (λ it P Q. rule (negated conjunction ∷ []) (it ∷ []) (areClosed ps) ((¬ᵗ P ∷ []) ∷ (¬ᵗ Q ∷ []) ∷ []))
 
--- a kind 22 H, its instance, as many types as its count, variable 0's first: adds the instance
-abbrev pub row45 : List Tree → Row
-row45 ps = record {
-  shapes = forAllTypes ∷ formula ∷ replicate (atomOf (at ps 0)) type;
-  needs = at ps 0 ∷ [];
-  fits = both (areClosed (drop 1 ps)) (same (at ps 1) (instance (drop 2 ps) (secondOf (at ps 0))));
-  fresh = [];
-  adds = (at ps 1 ∷ []) ∷ [];
-}
+  -- ¬∀B, constant c, B(c): first; ¬B(c); c fresh, and of the type τ of the place
+  abbrev pub row43 : Row
+  row43 = letters¬ ps (λ it τ B. record {
+    shapes = negated universal ∷ constant ∷ formula ∷ [];
+    needs = it ∷ [];
+    fits = both (areClosed ps) (both (same (typeOf (part ps 1)) τ) (same (part ps 2) (replaced 0 (part ps 1) B)));
+    fresh = atomOf (part ps 1) ∷ [];
+    adds = (¬ᵗ (part ps 2) ∷ []) ∷ [];
+  })
 
--- B, t, u, B(t), B(u): needs B(t), adds ¬(t=u) / B(u); "B is open in index 0 at most"; "t and u one type", and t that of each place
-abbrev pub row46 : List Tree → Row
-row46 ps = record {
-  shapes = formula ∷ term ∷ term ∷ formula ∷ formula ∷ [];
-  needs = at ps 3 ∷ [];
-  fits =
-      both (indicesBelow 1 (at ps 0))
-      (both (areClosed (drop 1 ps))
-      (both (same (typeOf (at ps 1)) (typeOf (at ps 2)))
-      (both (bears 0 (typeOf (at ps 1)) (at ps 0))
-      (both (same (at ps 3) (replaced 0 (at ps 1) (at ps 0))) (same (at ps 4) (replaced 0 (at ps 2) (at ps 0)))))));
-  fresh = [];
-  adds = (¬ᵗ (at ps 1 =ᵗ at ps 2) ∷ []) ∷ (at ps 4 ∷ []) ∷ [];
-}
+  -- ∀B, term t, B(t): first; B(t); t of the type τ of the place
+  abbrev pub row44 : Row
+  row44 = letters ps (λ it τ B. rule (universal ∷ term ∷ formula ∷ []) (it ∷ [])
+      (both (areClosed ps) (both (same (typeOf (part ps 1)) τ) (same (part ps 2) (replaced 0 (part ps 1) B)))) ((part ps 2 ∷ []) ∷ []))
+
+  -- a kind 22 H, its instance, as many types as its count, variable 0's first: H; the instance
+  abbrev pub row45 : Row
+  row45 = letters ps (λ H _ P. rule (forAllTypes ∷ formula ∷ replicate (atomOf H) type) (H ∷ [])
+      (both (areClosed (drop 1 ps)) (same (part ps 1) (instance (drop 2 ps) P))) ((part ps 1 ∷ []) ∷ []))
+
+  -- B, t, u, B(t), B(u): B(t); ¬(t=u) / B(u); B open in index 0 at most, t and u of one type, that of each place
+  abbrev pub row46 : Row
+  row46 =
+      let B : Tree = part ps 0 in
+      let t : Tree = part ps 1 in
+      let u : Tree = part ps 2 in
+      let replacement : Bool = both (same (part ps 3) (replaced 0 t B)) (same (part ps 4) (replaced 0 u B)) in
+      let types : Bool = both (same (typeOf t) (typeOf u)) (both (bears 0 (typeOf t) B) replacement) in
+      rule (formula ∷ term ∷ term ∷ formula ∷ formula ∷ []) (part ps 3 ∷ [])
+      (both (indicesBelow 1 B) (both (areClosed (drop 1 ps)) types)) ((¬ᵗ (t =ᵗ u) ∷ []) ∷ (part ps 4 ∷ []) ∷ [])
 
 -- no rule: nothing fits
 abbrev pub noRow : Row
-noRow = record { shapes = []; needs = []; fits = false; fresh = []; adds = [] }
+noRow = rule [] [] false []
 
 -- the row of rule kind k, with the trees of a node's parts
 unfoldable pub row : ℕ → List Tree → Row

@@ -3,10 +3,12 @@ use mathlib.Core.Path.{_≡_, refl}
 use mathlib.Core.List.{List, [], _∷_, map}
 use Rattle.reader.specs.declared.Answer.{Answer}
 use Rattle.reader.specs.Answers.{answer}
-use Rattle.proof_rules.specs.Files.{Words, r, bytes, Case, gives, answersOf}
+use Rattle.reader.specs.Examples.{Words, r, bytes, Case, gives, answersOf}
+use Rattle.proof_rules.specs.Check.{proofAnswer}
+use Rattle.proof_rules.specs.Opened.{openProofs}
 
 abbrev trap : List Words → List Words → Answer → Case
-trap obligation proof expected = record { obligation = bytes obligation; proof = bytes proof; answer = expected }
+trap obligation proof expected = record { obligation = bytes obligation; second = bytes proof; answer = expected }
 
 -- hypothesis c=c, goal ∀x·x=x
 abbrev constantInHypothesis : List Words
@@ -51,6 +53,6 @@ traps =
     (r 1 6 16 10 ∷ r 9 0 2 0 ∷ r 20 5 11 0 ∷ r 19 2 12 0 ∷ r 19 2 13 0 ∷ r 1 14 0 0 ∷ r 34 15 0 0 ∷ [])
     (answer 0 0 0 1) ∷ []
 
-pub traps-hold : answersOf traps ≡ map gives traps
-unfolding answersOf
+pub traps-hold : answersOf proofAnswer traps ≡ map gives traps
+unfolding openProofs
 traps-hold = refl

@@ -1,32 +1,31 @@
 -- The walk over a proof's nodes, and the ways out of the code that makes it.
 use Prim.Native.Nat.{ℕ, zero, suc, _+_, _*_, _<_, _≤_}
 use mathlib.Core.Path.{_≡_, refl, sym, ap, _∙_}
-use mathlib.Core.List.{List, [], _∷_, _++_, map}
-use mathlib.Core.Bool.{Bool, true, false}
-use lib.Dec.{eqb, leb}
+use mathlib.Core.List.{List, [], _∷_}
+use mathlib.Core.Bool.{true}
+use lib.Dec.{leb}
 use lib.ListN.{length, take, getD}
 use lib.Seq.{take-take}
 use native.Mathlib.Omega.{arith}
 use borrow.Author.Tests.{leb-true}
 use Rattle.reader.specs.declared.Answer.{Answer}
 use Rattle.reader.specs.Words.{Reader}
-use Rattle.reader.specs.Tests.{both, demand, every}
-use Rattle.reader.specs.Down.{down-zero}
+use Rattle.reader.specs.Tests.{every}
+use Rattle.reader.specs.DownLaws.{down-zero}
 use Rattle.reader.specs.Kinds.{isRule}
-use Rattle.reader.specs.Trees.{Tree, lower, tree}
-use Rattle.reader.specs.Chains.{items, premises, parts}
-use Rattle.reader.specs.Laws.{lower-below, items-zero, items-step}
+use Rattle.reader.specs.Trees.{Tree, lower}
+use Rattle.reader.specs.Chains.{items, premises}
+use Rattle.reader.specs.TreeLaws.{lower-below, items-step}
 use Rattle.reader.specs.Answers.{answer, accepted}
 use Rattle.reader.specs.Walk.{Walks, walkStep, noWalk, walks, walkNode, walkLinks}
-use Rattle.reader.specs.Meaning.{node-go, node-stop, link-zero, link-go, link-stop}
+use Rattle.reader.specs.WalkLaws.{node-go, node-stop, link-zero, link-go, link-stop}
 use Rattle.reader_laws.specs.Scan.{both-parts, demand-parts, every-head}
-use Rattle.reader_laws.specs.Under.{under, underLinks, under-step, under-links, under-links-zero}
+use Rattle.reader_laws.specs.Under.{under, underLinks, under-step, under-links}
 use Rattle.reader_laws.specs.Agree.{lower-most}
 use Rattle.reader_laws.specs.Entered.{node-count}
-use Rattle.proof_rules.specs.Rules.{Row}
-use Rattle.proof_rules.specs.Check.{rowOf, premisesFit, hasRoom, rowFault, nodeFault, premiseSequent}
-use Rattle.proof_members.specs.Makers.{Table}
-use Rattle.proof_members.specs.Sequents.{sequent, Ready, sequent-length, in-memory}
+use Rattle.proof_rules.specs.Check.{rowOf, hasRoom, rowFault, nodeFault, premiseSequent}
+use Rattle.reader.specs.Members.{premisesFit}
+use Rattle.proof_members.specs.Sequents.{sequent, sequent-length, in-memory}
 use Rattle.proof_members.specs.Added.{sequent-kept, ready-kept}
 use Rattle.proof_rows.specs.Grown.{Grown}
 use Rattle.proof_nodes.specs.Nodes.{At}
@@ -85,7 +84,7 @@ module _ (rd : Reader) (c n b : ℕ) (s : List Tree) (count : ℕ) where
 
 -- what a node gives that passes its tests: its premises are rule nodes, and each has room
 record Passed (rd : Reader) (s : List Tree) (n : ℕ) : Type 0 where
-  fits : premisesFit rd n (length (rowOf rd n .adds)) ≡ true
+  fits : premisesFit 1 rd n (length (rowOf rd n .adds)) ≡ true
   room : hasRoom s (rowOf rd n .adds) ≡ true
 
 passed : (rd : Reader) (s : List Tree) (n : ℕ) → nodeFault rd s n ≡ 0 → Passed rd s n

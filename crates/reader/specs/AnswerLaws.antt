@@ -6,7 +6,7 @@ use lib.Dec.{eqb}
 use native.Mathlib.Omega.{arith}
 use borrow.Author.Tests.{eq-eqb, ne-eqb}
 use Rattle.reader.specs.declared.Answer.{Answer}
-use Rattle.reader.specs.Answers.{answer, accepted, placed, orAnswer, firstFault}
+use Rattle.reader.specs.Answers.{answer, accepted, orAnswer, firstFault}
 
 -- A loop that looks for the first fault from record `first` on, up to `last`: from record i on it gives the answer.
 module _ (fault : ℕ → ℕ) (f first last i : ℕ) (inv : firstFault fault f (last + 1 - first) first ≡ firstFault fault f (last + 1 - i) i) where

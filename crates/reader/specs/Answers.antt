@@ -1,6 +1,6 @@
 -- The answer: "refusal, file (1 or 2), record, nodes"; the first refusal of places one after the other.
 use Prim.Native.Nat.{ℕ, zero, suc, _+_}
-use mathlib.Core.Bool.{Bool, true, false}
+use mathlib.Core.Bool.{true, false}
 use lib.Dec.{eqb}
 use Rattle.reader.specs.declared.Answer.{Answer}
 

@@ -1,8 +1,7 @@
 -- Laws of loops over a chain.
-use Prim.Native.Nat.{ℕ, zero, suc, _+_, _-_, _<_, _≤_}
-use mathlib.Core.Path.{_≡_, refl, sym, ap, _∙_}
-use mathlib.Core.List.{List, [], _∷_}
-use mathlib.Core.Bool.{Bool, true, false, not}
+use Prim.Native.Nat.{ℕ, suc, _-_, _<_}
+use mathlib.Core.Path.{_≡_, sym, ap, _∙_}
+use mathlib.Core.Bool.{true, false}
 use lib.Dec.{leb, leb·suc-suc}
 use lib.ListN.{length}
 use native.Mathlib.Omega.{arith}
@@ -10,7 +9,7 @@ use borrow.Author.Tests.{le-leb, lt-leb}
 use Rattle.reader.specs.Words.{Reader}
 use Rattle.reader.specs.Trees.{lower}
 use Rattle.reader.specs.Chains.{linked}
-use Rattle.reader.specs.Laws.{lower-below, linked-zero, linked-step}
+use Rattle.reader.specs.TreeLaws.{lower-below, linked-zero, linked-step}
 
 -- one record, and those of the rest of the chain
 pub linked-length : (rd : Reader) (c : ℕ) → (c ≡ 0 → ⊥) → length (linked rd c) ≡ suc (length (linked rd (lower rd c 3)))

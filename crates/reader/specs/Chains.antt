@@ -13,7 +13,7 @@ linkedStep rd sub i = i ∷ sub (lower rd i 3)
 unfoldable pub linked : Reader → ℕ → List ℕ
 linked rd = down [] (linkedStep rd)
 
--- "link: item, 0, next link": the items of the chain from link i on
+-- "item, 0, next link (0 ends)": the items of the chain from link i on
 unfoldable pub items : Reader → ℕ → List ℕ
 items rd i = map (λ l. lower rd l 1) (linked rd i)
 
@@ -21,7 +21,7 @@ items rd i = map (λ l. lower rd l 1) (linked rd i)
 unfoldable pub itemTrees : Reader → ℕ → List Tree
 itemTrees rd i = map (tree rd) (items rd i)
 
--- "rule node: chain of parts, chain of premises (each 0 if none)"
+-- of a rule node: "chain of parts, chain of premises (each 0 if none)"
 unfoldable pub parts : Reader → ℕ → List ℕ
 parts rd n = items rd (lower rd n 1)
 

@@ -3,20 +3,21 @@ use Prim.Native.Nat.{ℕ, zero, suc, _+_, _/_, _%_}
 use mathlib.Core.List.{List, [], _∷_, _++_}
 use mathlib.Core.Bool.{Bool, true, false, not}
 use lib.Dec.{eqb}
-use lib.ListN.{length}
 use Rattle.reader.specs.Words.{Reader}
 use Rattle.reader.specs.Tests.{both, either, between, every, ifEq}
+use Rattle.reader.specs.Kinds.{kinds}
 use Rattle.reader.specs.Chains.{linked}
 
 -- the name record that a symbol names; 0 for a record that is no symbol
 unfoldable pub nameOf : Reader → ℕ → ℕ
-nameOf rd i = ifEq (rd i 0) 3 (rd i 1) (ifEq (rd i 0) 7 (rd i 2) (ifEq (rd i 0) 8 (rd i 3) 0))
+nameOf rd i =
+    ifEq (rd i 0) (kinds .givenType) (rd i 1) (ifEq (rd i 0) (kinds .constant) (rd i 2) (ifEq (rd i 0) (kinds .function) (rd i 3) 0))
 
 -- Name spaces: 1 of given types, 2 of constants and functions; 0 for a record that is no symbol.
 unfoldable pub nameSpace : ℕ → ℕ
-nameSpace k = ifEq k 3 1 (ifEq k 7 2 (ifEq k 8 2 0))
+nameSpace k = ifEq k (kinds .givenType) 1 (ifEq k (kinds .constant) 2 (ifEq k (kinds .function) 2 0))
 
--- "4 bytes, low byte of each word first", before other bytes
+-- "low byte of each word first": the 4 bytes of a word, before other bytes
 unfoldable pub bytesOf : ℕ → List ℕ → List ℕ
 bytesOf v rest = v % 256 ∷ v / 256 % 256 ∷ v / 65536 % 256 ∷ v / 16777216 % 256 ∷ rest
 

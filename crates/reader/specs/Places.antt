@@ -7,16 +7,16 @@ use lib.ListN.{length}
 use Rattle.reader.specs.declared.Answer.{Answer}
 use Rattle.reader.specs.Words.{Reader, wordOf, word, recordCount}
 use Rattle.reader.specs.Tests.{both, either, demand, every, ifEq, ifTrue}
-use Rattle.reader.specs.Kinds.{class, isRule}
-use Rattle.reader.specs.Trees.{Tree, tree, kindOf, atomOf}
-use Rattle.reader.specs.Chains.{linked, items, itemTrees, premises}
+use Rattle.reader.specs.Kinds.{modes, kinds, formulaᶜ, class, isRule}
+use Rattle.reader.specs.Trees.{Tree, tree, kindOf, atomOf, firstOf}
+use Rattle.reader.specs.Chains.{linked, itemTrees, premises}
 use Rattle.reader.specs.Variables.{indicesBelow, typesBelow, isClosed}
 use Rattle.reader.specs.Records.{recordFault}
-use Rattle.reader.specs.Answers.{accepted, placed, orAnswer, firstFault}
+use Rattle.reader.specs.Answers.{placed, orAnswer, firstFault}
 
 -- "over 1,024 records (obligation), 3,073 (proof), 200,001 (derivation), header counted", by the kind of file
 unfoldable pub mostRecords : ℕ → ℕ
-mostRecords mode = ifEq mode 1 3073 (ifEq mode 2 200001 1024)
+mostRecords mode = ifEq mode (modes .proof) 3073 (ifEq mode (modes .derivation) 200001 1024)
 
 -- "1 under 16 bytes, no multiple of 16, or over" the limit
 unfoldable pub lengthFits : ℕ → List ℕ → Bool
@@ -33,39 +33,48 @@ hypothesisChain rd = rd 0 2
 abbrev pub negatedGoal : Reader → ℕ
 negatedGoal rd = rd 0 3
 
+-- the hypotheses, in the order of their chain
+abbrev pub hypotheses : Reader → List Tree
+hypotheses rd = itemTrees rd (hypothesisChain rd)
+
+-- "the formula under the ¬ that the obligation's header names"
+abbrev pub goal : Reader → Tree
+goal rd = firstOf (tree rd (negatedGoal rd))
+
+-- the count n of a file's own header
+abbrev pub countOf : List ℕ → ℕ
+countOf s = wordOf s 0 1
+
 -- "A proof's or derivation's: root node, the obligation's count m"
 abbrev pub rootOf : List ℕ → ℕ
 rootOf s = wordOf s 0 2
-
-abbrev pub countOf : List ℕ → ℕ
-countOf s = wordOf s 0 1
 
 -- "or wrong m"
 unfoldable pub countsFit : List ℕ → List ℕ → Bool
 countsFit obligation s = both (headerFits s) (eqb (wordOf s 0 3) (countOf obligation))
 
--- "goal not a closed ¬": of the places that the header names, one that is out of range reads as kind 0, and 0 itself as the header's kind, 1
+-- "goal not a closed ¬": a record out of range reads as kind 0, and record 0 is the header, of kind 1, so both meet 11 here
 unfoldable pub goalFits : Reader → Bool
-goalFits rd = both (eqb (rd (negatedGoal rd) 0) 18) (isClosed (tree rd (negatedGoal rd)))
+goalFits rd = both (eqb (rd (negatedGoal rd) 0) (kinds .not)) (isClosed (tree rd (negatedGoal rd)))
 
 -- a hypothesis is a formula, or for all types
 unfoldable pub isHypothesis : Tree → Bool
-isHypothesis t = either (eqb (class (kindOf t)) 5) (eqb (kindOf t) 22)
+isHypothesis t = either (eqb (class (kindOf t)) formulaᶜ) (eqb (kindOf t) (kinds .forAllTypes))
 
 -- how many type variables a hypothesis may have: the count of kind 22, and none in a formula
 unfoldable pub typeCount : Tree → ℕ
-typeCount t = ifEq (kindOf t) 22 (atomOf t) 0
+typeCount t = ifEq (kindOf t) (kinds .forAllTypes) (atomOf t) 0
 
--- "hypothesis of wrong class; hypothesis not closed, type variables at or past its count"
+-- "hypothesis of wrong class", "hypothesis not closed, type variables at or past its count"
 unfoldable pub hypothesisFits : Tree → Bool
 hypothesisFits t = both (isHypothesis t) (both (indicesBelow 0 t) (typesBelow (typeCount t) t))
 
--- "chain head out of range or of wrong class", "over 256 hypotheses"
+-- "chain head out of range", "or of wrong class"; "over 256 hypotheses"
 unfoldable pub hypothesesFit : Reader → Bool
 hypothesesFit rd =
     elim (eqb (hypothesisChain rd) 0) [
       | true ↦ true
-      | false ↦ both (eqb (rd (hypothesisChain rd) 0) 1)
+      | false ↦ both (eqb (rd (hypothesisChain rd) 0) (kinds .link))
           (both (every hypothesisFits (itemTrees rd (hypothesisChain rd))) (leb (length (linked rd (hypothesisChain rd))) 256))
     ]
 
@@ -87,9 +96,9 @@ namingFault mode rd root last i =
 -- "the obligation through all of its places first"
 unfoldable pub obligationReading : List ℕ → Answer
 obligationReading ob =
-    orAnswer (placed (demand (lengthFits 0 ob) 1 0) 1 0)
+    orAnswer (placed (demand (lengthFits (modes .obligation) ob) 1 0) 1 0)
     (orAnswer (placed (demand (headerFits ob) 2 0) 1 0)
-    (orAnswer (firstFault (recordFault 0 (word ob [] (countOf ob))) 1 (countOf ob) 1)
+    (orAnswer (firstFault (recordFault (modes .obligation) (word ob [] (countOf ob))) 1 (countOf ob) 1)
     (placed (demand (both (goalFits (word ob [] (countOf ob))) (hypothesesFit (word ob [] (countOf ob)))) 11 0) 1 0)))
 
 -- the second file, of kind `mode`, beside its obligation

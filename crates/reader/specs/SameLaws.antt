@@ -1,16 +1,15 @@
 -- The comparison of two records, as one step, and the ways out of the code that makes it.
-use Prim.Native.Nat.{ℕ, zero, suc, _+_, _*_, _<_}
-use mathlib.Core.Path.{_≡_, refl, sym, ap, _∙_}
+use Prim.Native.Nat.{ℕ, _+_, _*_, _<_}
+use mathlib.Core.Path.{_≡_, sym}
 use mathlib.Core.Bool.{Bool, true, false}
 use lib.Dec.{eqb}
 use native.Mathlib.Omega.{arith}
 use borrow.Author.Tests.{ne-eqb, eq-eqb}
 use Rattle.reader.specs.Words.{Reader}
 use Rattle.reader.specs.Tests.{both, ifTrue}
-use Rattle.reader.specs.Kinds.{isSymbol, isNumber}
-use Rattle.reader.specs.At.{roleAt}
-use Rattle.reader.specs.Trees.{Tree, leaf, node, child, atom, tree, sameHead, same}
-use Rattle.reader.specs.Laws.{tree-zero, tree-step, child-below, same-self}
+use Rattle.reader.specs.Kinds.{isSymbol, isNumber, roleAt}
+use Rattle.reader.specs.Trees.{child, atom, tree, sameHead, same}
+use Rattle.reader.specs.TreeLaws.{tree-zero, tree-step, child-below, same-self}
 
 -- records i and j have one kind and one atom
 unfoldable pub sameHeadAt : Reader → ℕ → ℕ → Bool

@@ -4,7 +4,7 @@ use mathlib.Core.List.{List, [], _∷_}
 use mathlib.Core.Bool.{Bool, true, false}
 use lib.Dec.{eqb}
 use Rattle.reader.specs.Tests.{both}
-use Rattle.reader.specs.Kinds.{class}
+use Rattle.reader.specs.Kinds.{kinds, typeᶜ, termᶜ, formulaᶜ, class}
 use Rattle.reader.specs.Trees.{Tree, kindOf, firstOf}
 
 pub data Shape : Type 0 where
@@ -13,36 +13,36 @@ pub data Shape : Type 0 where
   negated : Shape → Shape
 
 abbrev pub type : Shape
-type = ofClass 3
+type = ofClass typeᶜ
 
 abbrev pub term : Shape
-term = ofClass 4
+term = ofClass termᶜ
 
 abbrev pub formula : Shape
-formula = ofClass 5
+formula = ofClass formulaᶜ
 
 abbrev pub constant : Shape
-constant = ofKind 7
+constant = ofKind (kinds .constant)
 
 abbrev pub conjunction : Shape
-conjunction = ofKind 16
+conjunction = ofKind (kinds .and)
 
 abbrev pub implication : Shape
-implication = ofKind 17
+implication = ofKind (kinds .implies)
 
 abbrev pub universal : Shape
-universal = ofKind 19
+universal = ofKind (kinds .forAll)
 
 abbrev pub equation : Shape
-equation = ofKind 20
+equation = ofKind (kinds .equal)
 
 abbrev pub forAllTypes : Shape
-forAllTypes = ofKind 22
+forAllTypes = ofKind (kinds .forAllTypes)
 
 unfoldable pub hasShape : Shape → Tree → Bool
 hasShape (ofClass c) t = eqb (class (kindOf t)) c
 hasShape (ofKind k) t = eqb (kindOf t) k
-hasShape (negated s) t = both (eqb (kindOf t) 18) (hasShape s (firstOf t))
+hasShape (negated s) t = both (eqb (kindOf t) (kinds .not)) (hasShape s (firstOf t))
 
 -- "number, class or form of parts": the trees have the shapes, one by one
 unfoldable pub haveShapes : List Shape → List Tree → Bool

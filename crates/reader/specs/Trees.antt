@@ -4,8 +4,7 @@ use mathlib.Core.Bool.{Bool, true, false}
 use lib.Dec.{eqb}
 use Rattle.reader.specs.Words.{Reader}
 use Rattle.reader.specs.Down.{down}
-use Rattle.reader.specs.Kinds.{isNumber, isSymbol}
-use Rattle.reader.specs.At.{roleAt}
+use Rattle.reader.specs.Kinds.{kinds, itemʳ, isNumber, isSymbol, roleAt}
 use Rattle.reader.specs.Tests.{ifLt, ifTrue}
 
 -- a record's kind, its atom, and what its words 1 to 3 refer to
@@ -19,9 +18,9 @@ lower rd i w = ifLt (rd i w) i (rd i w) 0
 
 -- the same where it is a part of record i's tree, else 0
 unfoldable pub child : Reader → ℕ → ℕ → ℕ
-child rd i w = ifLt (roleAt rd i w) 10 0 (lower rd i w)
+child rd i w = ifLt (roleAt rd i w) itemʳ 0 (lower rd i w)
 
--- What tells a record from others of its kind: "symbols by record number"; the number of a type variable or bound variable, the count of kind 22.
+-- What tells a record from others of its kind: a symbol's own record number; the number of a type variable or bound variable, the count of kind 22.
 unfoldable pub atom : Reader → ℕ → ℕ
 atom rd i = ifTrue (isSymbol (rd i 0)) i (ifTrue (isNumber (roleAt rd i 1)) (rd i 1) 0)
 
@@ -58,7 +57,7 @@ thirdOf (node k a x y z) = z
 unfoldable pub sameHead : ℕ → ℕ → ℕ → ℕ → Bool
 sameHead k l a b = elim (eqb k l) [ true ↦ eqb a b | false ↦ false ]
 
--- "Equality of types, terms and formulas is by structure, symbols by record number."
+-- "Equality of types, terms and formulas is by structure, symbols (given types, constants, functions) by record number."
 unfoldable pub same : Tree → Tree → Bool
 same leaf leaf = true
 same leaf (node k a x y z) = false
@@ -75,28 +74,28 @@ infixr 71 _⇒ᵗ_
 infix 74 _=ᵗ_
 infix 73 ¬ᵗ_
 abbrev pub ⊥ᵗ : Tree
-⊥ᵗ = node 14 0 leaf leaf leaf
+⊥ᵗ = node (kinds .false) 0 leaf leaf leaf
 
 abbrev pub ⊤ᵗ : Tree
-⊤ᵗ = node 15 0 leaf leaf leaf
+⊤ᵗ = node (kinds .true) 0 leaf leaf leaf
 
 abbrev pub _∧ᵗ_ : Tree → Tree → Tree
-P ∧ᵗ Q = node 16 0 P Q leaf
+P ∧ᵗ Q = node (kinds .and) 0 P Q leaf
 
 abbrev pub _⇒ᵗ_ : Tree → Tree → Tree
-P ⇒ᵗ Q = node 17 0 P Q leaf
+P ⇒ᵗ Q = node (kinds .implies) 0 P Q leaf
 
 abbrev pub ¬ᵗ_ : Tree → Tree
-¬ᵗ P = node 18 0 P leaf leaf
+¬ᵗ P = node (kinds .not) 0 P leaf leaf
 
 abbrev pub ∀ᵗ : Tree → Tree → Tree
-∀ᵗ τ B = node 19 0 τ B leaf
+∀ᵗ τ B = node (kinds .forAll) 0 τ B leaf
 
 abbrev pub _=ᵗ_ : Tree → Tree → Tree
-t =ᵗ u = node 20 0 t u leaf
+t =ᵗ u = node (kinds .equal) 0 t u leaf
 
 abbrev pub setᵗ : Tree → Tree
-setᵗ τ = node 4 0 τ leaf leaf
+setᵗ τ = node (kinds .setType) 0 τ leaf leaf
 
 abbrev pub pairᵗ : Tree → Tree → Tree
-pairᵗ τ υ = node 5 0 τ υ leaf
+pairᵗ τ υ = node (kinds .pairType) 0 τ υ leaf

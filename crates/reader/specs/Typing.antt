@@ -6,6 +6,7 @@ use lib.Dec.{eqb}
 use lib.ListN.{getD, length, drop}
 use Rattle.reader.specs.Words.{Reader}
 use Rattle.reader.specs.Tests.{both, every, ifEq}
+use Rattle.reader.specs.Kinds.{kinds}
 use Rattle.reader.specs.Trees.{Tree, leaf, node, lower, tree, kindOf, firstOf, secondOf, thirdOf, same, setᵗ, pairᵗ}
 use Rattle.reader.specs.Chains.{itemTrees}
 use Rattle.reader.specs.Variables.{bears, typesBelow, instance}
@@ -14,7 +15,10 @@ use Rattle.reader.specs.Variables.{bears, typesBelow, instance}
 unfoldable pub typeOf : Tree → Tree
 typeOf leaf = leaf
 typeOf (node k a x y z) =
-    ifEq k 7 x (ifEq k 9 y (ifEq k 10 z (ifEq k 11 z (ifEq k 12 y (ifEq k 13 (firstOf y) leaf)))))
+    ifEq k (kinds .constant) x
+    (ifEq k (kinds .boundVariable) y
+    (ifEq k (kinds .pair) z
+    (ifEq k (kinds .product) z (ifEq k (kinds .powerset) y (ifEq k (kinds .application) (firstOf y) leaf)))))
 
 -- the trees of two lists are equal, one by one
 unfoldable pub sameAll : List Tree → List Tree → Bool
@@ -30,13 +34,13 @@ pairTyped t = same (thirdOf t) (pairᵗ (typeOf (firstOf t)) (typeOf (secondOf t
 -- "a product of Set(τ), Set(υ) is Set(Pair(τ,υ))"
 unfoldable pub productTyped : Tree → Bool
 productTyped t =
-    both (eqb (kindOf (typeOf (firstOf t))) 4)
-    (both (eqb (kindOf (typeOf (secondOf t))) 4)
+    both (eqb (kindOf (typeOf (firstOf t))) (kinds .setType))
+    (both (eqb (kindOf (typeOf (secondOf t))) (kinds .setType))
     (same (thirdOf t) (setᵗ (pairᵗ (firstOf (typeOf (firstOf t))) (firstOf (typeOf (secondOf t)))))))
 
 -- "a powerset of Set(τ) is Set(Set(τ))"
 unfoldable pub powersetTyped : Tree → Bool
-powersetTyped t = both (eqb (kindOf (typeOf (firstOf t))) 4) (same (secondOf t) (setᵗ (typeOf (firstOf t))))
+powersetTyped t = both (eqb (kindOf (typeOf (firstOf t))) (kinds .setType)) (same (secondOf t) (setᵗ (typeOf (firstOf t))))
 
 -- "= needs equal types"
 unfoldable pub equalTyped : Tree → Bool
@@ -73,12 +77,12 @@ applicationTyped rd i =
 -- record i is typed as its kind asks
 unfoldable pub isTyped : Reader → ℕ → Bool
 isTyped rd i =
-    ifEq (rd i 0) 7 (constantTyped (tree rd i))
-    (ifEq (rd i 0) 8 (functionTyped rd i)
-    (ifEq (rd i 0) 10 (pairTyped (tree rd i))
-    (ifEq (rd i 0) 11 (productTyped (tree rd i))
-    (ifEq (rd i 0) 12 (powersetTyped (tree rd i))
-    (ifEq (rd i 0) 13 (applicationTyped rd i)
-    (ifEq (rd i 0) 19 (forAllTyped (tree rd i))
-    (ifEq (rd i 0) 20 (equalTyped (tree rd i))
-    (ifEq (rd i 0) 21 (memberTyped (tree rd i)) true))))))))
+    ifEq (rd i 0) (kinds .constant) (constantTyped (tree rd i))
+    (ifEq (rd i 0) (kinds .function) (functionTyped rd i)
+    (ifEq (rd i 0) (kinds .pair) (pairTyped (tree rd i))
+    (ifEq (rd i 0) (kinds .product) (productTyped (tree rd i))
+    (ifEq (rd i 0) (kinds .powerset) (powersetTyped (tree rd i))
+    (ifEq (rd i 0) (kinds .application) (applicationTyped rd i)
+    (ifEq (rd i 0) (kinds .forAll) (forAllTyped (tree rd i))
+    (ifEq (rd i 0) (kinds .equal) (equalTyped (tree rd i))
+    (ifEq (rd i 0) (kinds .member) (memberTyped (tree rd i)) true))))))))

@@ -5,15 +5,16 @@ use mathlib.Core.Bool.{Bool, true, false}
 use lib.Dec.{eqb, ltb}
 use lib.ListN.{getD}
 use Rattle.reader.specs.Tests.{both}
+use Rattle.reader.specs.Kinds.{kinds}
 use Rattle.reader.specs.Trees.{Tree, leaf, node, same}
 
 -- how many binders word 2 of a record of kind k stands under: "Index 0 means the nearest enclosing ∀."
 unfoldable pub binders : ℕ → ℕ
-binders k = elim (eqb k 19) [ true ↦ 1 | false ↦ 0 ]
+binders k = elim (eqb k (kinds .forAll)) [ true ↦ 1 | false ↦ 0 ]
 
 -- a node of kind k and atom a is the bound variable with index d
 unfoldable pub isIndex : ℕ → ℕ → ℕ → Bool
-isIndex k a d = elim (eqb k 9) [ true ↦ eqb a d | false ↦ false ]
+isIndex k a d = elim (eqb k (kinds .boundVariable)) [ true ↦ eqb a d | false ↦ false ]
 
 -- "B(t) is B with index 0 replaced", counting the binders crossed: the tree with t in place of index d
 unfoldable pub replaced : ℕ → Tree → Tree → Tree
@@ -31,27 +32,27 @@ bears d τ (node k a x y z) =
     ]
 
 -- a node of kind k and atom a is no bound variable with an index from d on
-unfoldable pub isBound : ℕ → ℕ → ℕ → Bool
-isBound k a d = elim (eqb k 9) [ true ↦ ltb a d | false ↦ true ]
+unfoldable pub indexBelow : ℕ → ℕ → ℕ → Bool
+indexBelow k a d = elim (eqb k (kinds .boundVariable)) [ true ↦ ltb a d | false ↦ true ]
 
 -- "no unbound index": every index is below d, or bound in the tree
 unfoldable pub indicesBelow : ℕ → Tree → Bool
 indicesBelow d leaf = true
 indicesBelow d (node k a x y z) =
-    elim (isBound k a d) [
+    elim (indexBelow k a d) [
       | true ↦ elim (indicesBelow d x) [ true ↦ elim (indicesBelow (d + binders k) y) [ true ↦ indicesBelow d z | false ↦ false ] | false ↦ false ]
       | false ↦ false
     ]
 
 -- a node of kind k and atom a is no type variable with a number from p on
-unfoldable pub isTypeBelow : ℕ → ℕ → ℕ → Bool
-isTypeBelow k a p = elim (eqb k 6) [ true ↦ ltb a p | false ↦ true ]
+unfoldable pub typeVariableBelow : ℕ → ℕ → ℕ → Bool
+typeVariableBelow k a p = elim (eqb k (kinds .typeVariable)) [ true ↦ ltb a p | false ↦ true ]
 
 -- "only variables below their parameter count": every type variable is below p
 unfoldable pub typesBelow : ℕ → Tree → Bool
 typesBelow p leaf = true
 typesBelow p (node k a x y z) =
-    elim (isTypeBelow k a p) [
+    elim (typeVariableBelow k a p) [
       | true ↦ elim (typesBelow p x) [ true ↦ elim (typesBelow p y) [ true ↦ typesBelow p z | false ↦ false ] | false ↦ false ]
       | false ↦ false
     ]
@@ -62,7 +63,7 @@ isClosed t = both (indicesBelow 0 t) (typesBelow 0 t)
 
 -- a node of kind k and atom a is the constant c
 unfoldable pub isConstant : ℕ → ℕ → ℕ → Bool
-isConstant k a c = elim (eqb k 7) [ true ↦ eqb a c | false ↦ false ]
+isConstant k a c = elim (eqb k (kinds .constant)) [ true ↦ eqb a c | false ↦ false ]
 
 -- the constant with record number c is in the tree
 unfoldable pub occurs : ℕ → Tree → Bool
@@ -77,7 +78,7 @@ occurs c (node k a x y z) =
 unfoldable pub instance : List Tree → Tree → Tree
 instance types leaf = leaf
 instance types (node k a x y z) =
-    elim (eqb k 6) [
+    elim (eqb k (kinds .typeVariable)) [
       | true ↦ getD types a (node k a x y z)
       | false ↦ node k a (instance types x) (instance types y) (instance types z)
     ]

@@ -1,7 +1,7 @@
 -- The walk over rule nodes, of any calculus: "node, then premises in chain order". A state is what a node is to prove (a sequent, or a sequent and a
 -- goal); `fault` has all of a node's tests, 0 where they pass, and `next` gives the state of each of its premises.
 use Prim.Native.Nat.{ℕ, _+_}
-use mathlib.Core.Bool.{Bool, true, false}
+use mathlib.Core.Bool.{true, false}
 use lib.Dec.{eqb}
 use Rattle.reader.specs.declared.Answer.{Answer}
 use Rattle.reader.specs.Words.{Reader}

@@ -3,12 +3,13 @@ use Prim.Native.Nat.{ℕ, _+_}
 use mathlib.Core.Bool.{Bool, true, false}
 use lib.Dec.{eqb}
 use Rattle.reader.specs.Tests.{ifEq, ifTrue}
-use Rattle.reader.specs.Kinds.{class}
+use Rattle.reader.specs.Kinds.{kinds, typeᶜ, termᶜ, formulaᶜ, forAllTypesᶜ, class}
 use Rattle.reader.specs.Trees.{Tree, leaf, node}
 
 -- a kind of class type, term, formula, or for all types: "kind 22 weighs as a formula"
 unfoldable pub isWeighed : ℕ → Bool
-isWeighed k = ifEq (class k) 3 true (ifEq (class k) 4 true (ifEq (class k) 5 true (ifEq (class k) 7 true false)))
+isWeighed k =
+    ifEq (class k) typeᶜ true (ifEq (class k) termᶜ true (ifEq (class k) formulaᶜ true (ifEq (class k) forAllTypesᶜ true false)))
 
 -- what a record of kind k weighs itself: "chains read through, functions not counted"
 unfoldable pub ownWeight : ℕ → ℕ
@@ -18,4 +19,4 @@ ownWeight k = ifTrue (isWeighed k) 1 0
 -- that it names, each as often as named": of those with weight 1 only a constant's tree has parts
 unfoldable pub weight : Tree → ℕ
 weight leaf = 0
-weight (node k a x y z) = elim (eqb k 7) [ true ↦ 1 | false ↦ ownWeight k + weight x + weight y + weight z ]
+weight (node k a x y z) = elim (eqb k (kinds .constant)) [ true ↦ 1 | false ↦ ownWeight k + weight x + weight y + weight z ]

@@ -1,7 +1,7 @@
 -- Files: 16-byte records of four 32-bit words, low byte first; an obligation and a second file are read through one numbering.
 use Prim.Native.Nat.{ℕ, _+_, _*_, _-_, _/_}
 use mathlib.Core.List.{List}
-use mathlib.Core.Bool.{Bool, true, false}
+use mathlib.Core.Bool.{true, false}
 use lib.Dec.{ltb}
 use lib.ListN.{getD, length}
 use Rattle.reader.specs.Tests.{ifLt}

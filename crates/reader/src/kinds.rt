@@ -3,105 +3,112 @@ use crate::tests::is_between;
 use crate::words;
 ghost use mathlib.Core.Path.{_≡_};
 ghost use Rattle.reader.specs.Words.{word};
-ghost use Rattle.reader.specs.Kinds.{class, role, ruleRole, isRule, isKind, isNumber, isSymbol};
-ghost use Rattle.reader.specs.At.{kindAt, classAt, roleAt};
+ghost use Rattle.reader.specs.Kinds.{layout, class, role, kindAt, classAt, roleAt, isRule, isKind, isNumber, isSymbol};
 
-const RECORDS: [u8; 92] = [
-    0,
-    0,
-    0,
+// The columns of the table, by kind.
+const CLASSES: [u8; 23] = [
     0,
     1,
-    10,
-    0,
-    11,
     2,
-    1,
-    1,
+    3,
+    3,
+    3,
+    3,
+    4,
+    6,
+    4,
+    4,
+    4,
+    4,
+    4,
+    5,
+    5,
+    5,
+    5,
+    5,
+    5,
+    5,
+    5,
     7,
-    3,
-    6,
-    0,
-    0,
-    3,
-    12,
-    0,
-    0,
-    3,
-    12,
-    12,
-    0,
-    3,
-    2,
-    0,
-    0,
-    4,
-    12,
-    6,
-    0,
-    6,
-    9,
-    3,
-    6,
-    4,
-    4,
-    12,
-    0,
-    4,
-    13,
-    13,
-    12,
-    4,
-    13,
-    13,
-    12,
-    4,
-    13,
-    12,
-    0,
-    4,
-    15,
-    16,
-    17,
-    5,
-    0,
-    0,
-    0,
-    5,
-    0,
-    0,
-    0,
-    5,
-    14,
-    14,
-    0,
-    5,
-    14,
-    14,
-    0,
-    5,
-    14,
-    0,
-    0,
-    5,
-    12,
-    14,
-    0,
-    5,
-    13,
-    13,
-    0,
-    5,
-    13,
-    13,
-    0,
-    7,
-    5,
-    14,
-    0,
 ];
 
-const RULE_ROLES: [u8; 4] = [0, 8, 8, 0];
+const FIRST: [u8; 23] = [
+    0,
+    10,
+    1,
+    6,
+    12,
+    12,
+    2,
+    12,
+    9,
+    4,
+    13,
+    13,
+    13,
+    15,
+    0,
+    0,
+    14,
+    14,
+    14,
+    12,
+    13,
+    13,
+    5,
+];
+
+const SECOND: [u8; 23] = [
+    0,
+    0,
+    1,
+    0,
+    0,
+    12,
+    0,
+    6,
+    3,
+    12,
+    13,
+    13,
+    12,
+    16,
+    0,
+    0,
+    14,
+    14,
+    0,
+    14,
+    13,
+    13,
+    14,
+];
+
+const THIRD: [u8; 23] = [
+    0,
+    11,
+    7,
+    0,
+    0,
+    0,
+    0,
+    0,
+    6,
+    0,
+    12,
+    12,
+    0,
+    17,
+    0,
+    0,
+    0,
+    0,
+    0,
+    0,
+    0,
+    0,
+    0,
+];
 
 // The class of a record of kind k.
 pub fn class_of(k: usize) -> u8
@@ -110,31 +117,62 @@ pub fn class_of(k: usize) -> u8
     if 23 <= k {
         return 0;
     }
-    RECORDS[4 * k]
+    CLASSES[k]
+}
+
+// The role of word 1 of a record of kind k.
+fn first_role(k: usize) -> u8
+    ensures { λ r. ⌜ r ≡ layout k .first ⌝ }
+{
+    if 32 <= k {
+        return 8;
+    }
+    if 23 <= k {
+        return 0;
+    }
+    FIRST[k]
+}
+
+// The role of word 2 of a record of kind k.
+fn second_role(k: usize) -> u8
+    ensures { λ r. ⌜ r ≡ layout k .second ⌝ }
+{
+    if 32 <= k {
+        return 8;
+    }
+    if 23 <= k {
+        return 0;
+    }
+    SECOND[k]
+}
+
+// The role of word 3 of a record of kind k.
+fn third_role(k: usize) -> u8
+    ensures { λ r. ⌜ r ≡ layout k .third ⌝ }
+{
+    if 32 <= k {
+        return 0;
+    }
+    if 23 <= k {
+        return 0;
+    }
+    THIRD[k]
 }
 
 // The role of word w of a record of kind k.
 pub fn role_of(k: usize, w: u8) -> u8
     ensures { λ r. ⌜ r ≡ role k w ⌝ }
 {
-    if 32 <= k {
-        return rule_role(w);
+    if w == 1 {
+        return first_role(k);
     }
-    let at = 4 * k + (w as usize);
-    if 92 <= at {
-        return 0;
+    if w == 2 {
+        return second_role(k);
     }
-    RECORDS[at]
-}
-
-fn rule_role(w: u8) -> u8
-    ensures { λ r. ⌜ r ≡ ruleRole w ⌝ }
-{
-    let at = w as usize;
-    if 4 <= at {
-        return 0;
+    if w == 3 {
+        return third_role(k);
     }
-    RULE_ROLES[at]
+    0
 }
 
 // Is kind k a rule of a file of kind `mode`?

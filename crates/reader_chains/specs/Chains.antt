@@ -11,7 +11,7 @@ use borrow.Author.Tests.{eq-eqb, ne-eqb}
 use Rattle.reader.specs.Words.{Reader}
 use Rattle.reader.specs.Trees.{Tree, leaf, lower, tree}
 use Rattle.reader.specs.Chains.{linked, items, itemTrees}
-use Rattle.reader.specs.Laws.{tree-zero, linked-zero, linked-step, items-zero, items-step}
+use Rattle.reader.specs.TreeLaws.{tree-zero, linked-zero, linked-step, items-zero, items-step}
 use Rattle.reader_chains.specs.Shapes.{lower-zero}
 
 -- link n of the chain from link c on; 0 past its end, as no link is record 0

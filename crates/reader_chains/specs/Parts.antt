@@ -6,10 +6,9 @@ use lib.Dec.{ltb}
 use native.Mathlib.Omega.{arith}
 use Rattle.reader.specs.Words.{Reader}
 use Rattle.reader.specs.Tests.{ifLt}
-use Rattle.reader.specs.Kinds.{role}
-use Rattle.reader.specs.At.{roleAt}
+use Rattle.reader.specs.Kinds.{role, roleAt}
 use Rattle.reader.specs.Trees.{lower, child}
-use Rattle.reader.specs.Laws.{lower-below}
+use Rattle.reader.specs.TreeLaws.{lower-below}
 
 -- what word w of record i, of kind k, refers to, where that is a part of its tree
 unfoldable pub partAt : Reader → ℕ → ℕ → ℕ → ℕ

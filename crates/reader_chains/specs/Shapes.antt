@@ -7,10 +7,9 @@ use native.Mathlib.Omega.{arith}
 use borrow.Author.Tests.{lt-ltb, le-ltb, ne-eqb}
 use Rattle.reader.specs.Words.{Reader}
 use Rattle.reader.specs.Tests.{both, ifEq, ifLt, ifTrue}
-use Rattle.reader.specs.Kinds.{role, ruleRole, isNumber, isSymbol}
-use Rattle.reader.specs.At.{roleAt}
+use Rattle.reader.specs.Kinds.{role, isNumber, isSymbol, roleAt}
 use Rattle.reader.specs.Trees.{Tree, leaf, node, lower, child, atom, tree, kindOf, atomOf, firstOf, secondOf, thirdOf, sameHead, same, ⊥ᵗ, ⊤ᵗ, _∧ᵗ_, _⇒ᵗ_, ¬ᵗ_, ∀ᵗ, _=ᵗ_, setᵗ, pairᵗ}
-use Rattle.reader.specs.Laws.{tree-zero, tree-step}
+use Rattle.reader.specs.TreeLaws.{tree-zero, tree-step}
 
 -- Record 0 is none: nothing refers to a smaller one.
 pub lower-zero : (rd : Reader) (w : ℕ) → lower rd 0 w ≡ 0
@@ -98,41 +97,41 @@ module _ (rd : Reader) (i k : ℕ) (pos : 0 < i) (ek : rd i 0 ≡ k) (symbol : i
 -- Kinds 4, 5 and 14 to 21, in the rules' signs.
 module _ (rd : Reader) (i : ℕ) (pos : 0 < i) where
   pub set-tree : rd i 0 ≡ 4 → tree rd i ≡ setᵗ (tree rd (child rd i 1))
-  unfolding role ruleRole ifLt ifEq isSymbol isNumber
+  unfolding role ifLt ifEq isSymbol isNumber
   set-tree e = one-part rd i 4 pos e refl refl (omega arith) (omega arith)
 
   pub pair-tree : rd i 0 ≡ 5 → tree rd i ≡ pairᵗ (tree rd (child rd i 1)) (tree rd (child rd i 2))
-  unfolding role ruleRole ifLt ifEq isSymbol isNumber
+  unfolding role ifLt ifEq isSymbol isNumber
   pair-tree e = two-parts rd i 5 pos e refl refl (omega arith)
 
   pub false-tree : rd i 0 ≡ 14 → tree rd i ≡ ⊥ᵗ
-  unfolding role ruleRole ifLt ifEq isSymbol isNumber
+  unfolding role ifLt ifEq isSymbol isNumber
   false-tree e = no-part rd i 14 pos e refl refl (omega arith) (omega arith) (omega arith)
 
   pub true-tree : rd i 0 ≡ 15 → tree rd i ≡ ⊤ᵗ
-  unfolding role ruleRole ifLt ifEq isSymbol isNumber
+  unfolding role ifLt ifEq isSymbol isNumber
   true-tree e = no-part rd i 15 pos e refl refl (omega arith) (omega arith) (omega arith)
 
   pub and-tree : rd i 0 ≡ 16 → tree rd i ≡ (tree rd (child rd i 1)) ∧ᵗ (tree rd (child rd i 2))
-  unfolding role ruleRole ifLt ifEq isSymbol isNumber
+  unfolding role ifLt ifEq isSymbol isNumber
   and-tree e = two-parts rd i 16 pos e refl refl (omega arith)
 
   pub implies-tree : rd i 0 ≡ 17 → tree rd i ≡ (tree rd (child rd i 1)) ⇒ᵗ (tree rd (child rd i 2))
-  unfolding role ruleRole ifLt ifEq isSymbol isNumber
+  unfolding role ifLt ifEq isSymbol isNumber
   implies-tree e = two-parts rd i 17 pos e refl refl (omega arith)
 
   pub not-tree : rd i 0 ≡ 18 → tree rd i ≡ ¬ᵗ (tree rd (child rd i 1))
-  unfolding role ruleRole ifLt ifEq isSymbol isNumber
+  unfolding role ifLt ifEq isSymbol isNumber
   not-tree e = one-part rd i 18 pos e refl refl (omega arith) (omega arith)
 
   pub all-tree : rd i 0 ≡ 19 → tree rd i ≡ ∀ᵗ (tree rd (child rd i 1)) (tree rd (child rd i 2))
-  unfolding role ruleRole ifLt ifEq isSymbol isNumber
+  unfolding role ifLt ifEq isSymbol isNumber
   all-tree e = two-parts rd i 19 pos e refl refl (omega arith)
 
   pub equal-tree : rd i 0 ≡ 20 → tree rd i ≡ (tree rd (child rd i 1)) =ᵗ (tree rd (child rd i 2))
-  unfolding role ruleRole ifLt ifEq isSymbol isNumber
+  unfolding role ifLt ifEq isSymbol isNumber
   equal-tree e = two-parts rd i 20 pos e refl refl (omega arith)
 
   pub member-tree : rd i 0 ≡ 21 → tree rd i ≡ node 21 0 (tree rd (child rd i 1)) (tree rd (child rd i 2)) leaf
-  unfolding role ruleRole ifLt ifEq isSymbol isNumber
+  unfolding role ifLt ifEq isSymbol isNumber
   member-tree e = two-parts rd i 21 pos e refl refl (omega arith)

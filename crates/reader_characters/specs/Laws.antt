@@ -13,7 +13,7 @@ use Rattle.reader.specs.Words.{Reader}
 use Rattle.reader.specs.Tests.{both, every, ifEq, ifLt, ifTrue}
 use Rattle.reader.specs.Trees.{lower}
 use Rattle.reader.specs.Chains.{linked}
-use Rattle.reader.specs.Laws.{linked-zero, linked-step}
+use Rattle.reader.specs.TreeLaws.{linked-zero, linked-step}
 use Rattle.reader.specs.Names.{bytesOf, recordBytes, trimmed, nameBytes}
 use Rattle.reader_characters.specs.declared.Step.{Step}
 use Rattle.reader_characters.specs.Cursor.{digit, byteAt, bytesFrom, isZero, zerosFrom, ended, leftBytes, restBytes, step, nothing, read}

@@ -8,7 +8,7 @@ use native.Mathlib.Omega.{arith}
 use borrow.Author.Tests.{ltb-true, ltb-false, leb-true, leb-false, le-leb, lt-leb, ne-eqb}
 use Rattle.reader.specs.Tests.{both, ifEq, ifLt, ifTrue}
 use Rattle.reader.specs.Trees.{Tree, leaf, node, same}
-use Rattle.reader.specs.Variables.{binders, isIndex, replaced, bears, isBound, indicesBelow, isTypeBelow, typesBelow}
+use Rattle.reader.specs.Variables.{binders, isIndex, replaced, bears, indexBelow, indicesBelow, typeVariableBelow, typesBelow}
 
 -- the larger of two numbers
 unfoldable pub larger : ℕ → ℕ → ℕ
@@ -65,22 +65,22 @@ own-leb v k a d = go (eqb k v)
     go true = less (ltb a d) refl
     go false = sym (le-leb 0 d (omega arith))
 
-own-index : (k a d : ℕ) → isBound k a d ≡ leb (ownReach false k a) d
-unfolding isBound ownReach variable ifTrue
+own-index : (k a d : ℕ) → indexBelow k a d ≡ leb (ownReach false k a) d
+unfolding indexBelow ownReach variable ifTrue
 own-index k a d = own-leb 9 k a d
 
-own-type : (k a p : ℕ) → isTypeBelow k a p ≡ leb (ownReach true k a) p
-unfolding isTypeBelow ownReach variable ifTrue
+own-type : (k a p : ℕ) → typeVariableBelow k a p ≡ leb (ownReach true k a) p
+unfolding typeVariableBelow ownReach variable ifTrue
 own-type k a p = own-leb 6 k a p
 
 -- indices below d, and type variables below p, as one step
 indices-both : (d k a : ℕ) (x y z : Tree) →
-    indicesBelow d (node k a x y z) ≡ both (isBound k a d) (both (indicesBelow d x) (both (indicesBelow (d + binders k) y) (indicesBelow d z)))
+    indicesBelow d (node k a x y z) ≡ both (indexBelow k a d) (both (indicesBelow d x) (both (indicesBelow (d + binders k) y) (indicesBelow d z)))
 unfolding indicesBelow both
 indices-both d k a x y z = refl
 
 types-both : (p k a : ℕ) (x y z : Tree) →
-    typesBelow p (node k a x y z) ≡ both (isTypeBelow k a p) (both (typesBelow p x) (both (typesBelow p y) (typesBelow p z)))
+    typesBelow p (node k a x y z) ≡ both (typeVariableBelow k a p) (both (typesBelow p x) (both (typesBelow p y) (typesBelow p z)))
 unfolding typesBelow both
 types-both p k a x y z = refl
 
@@ -113,8 +113,8 @@ unfolding both
 both-in true b h = (refl, h)
 both-in false b h = absurd (false≢true h)
 
-bound-index : (k a d : ℕ) → isBound k a d ≡ true → isIndex k a d ≡ false
-unfolding isBound isIndex
+bound-index : (k a d : ℕ) → indexBelow k a d ≡ true → isIndex k a d ≡ false
+unfolding indexBelow isIndex
 bound-index k a d = go (eqb k 9)
   where
     go : (b : Bool) → elim b as (λ x. Bool) [ true ↦ ltb a d | false ↦ true ] ≡ true → elim b as (λ x. Bool) [ true ↦ eqb a d | false ↦ false ] ≡ false

@@ -12,7 +12,7 @@ use Rattle.reader.specs.Words.{Reader, le32, wordFrom, wordOf, through, word}
 use Rattle.reader.specs.Tests.{ifEq, ifLt, ifTrue}
 use Rattle.reader.specs.Kinds.{role, isNumber, isSymbol}
 use Rattle.reader.specs.Trees.{child, atom, tree}
-use Rattle.reader.specs.Laws.{tree-zero, tree-step, child-below}
+use Rattle.reader.specs.TreeLaws.{tree-zero, tree-step, child-below}
 use Rattle.reader.specs.Variables.{binders, indicesBelow, typesBelow}
 use Rattle.reader_chains.specs.Shapes.{atom-first}
 use Rattle.reader_closedness.specs.Reach.{larger, variable, crossed, ownReach, reach, indices-reach, types-reach}

@@ -13,10 +13,9 @@ use Rattle.reader_equality.specs.declared.Key.{Key}
 use Rattle.reader_equality.specs.Least.{least, least-equal, least-one, Numbered}
 use Rattle.reader.specs.Words.{Reader}
 use Rattle.reader.specs.Tests.{ifEq, ifLt, ifTrue}
-use Rattle.reader.specs.Kinds.{role, isSymbol, isNumber}
-use Rattle.reader.specs.At.{roleAt}
+use Rattle.reader.specs.Kinds.{role, isSymbol, isNumber, roleAt}
 use Rattle.reader.specs.Trees.{lower, child, atom, tree}
-use Rattle.reader.specs.Laws.{tree-step, lower-below, child-below}
+use Rattle.reader.specs.TreeLaws.{tree-step, lower-below, child-below}
 use Rattle.reader.specs.SameLaws.{atom-symbol, atom-number, atom-none}
 
 abbrev pub key : ℕ → ℕ → ℕ → ℕ → ℕ → Key

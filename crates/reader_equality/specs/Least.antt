@@ -11,7 +11,7 @@ use native.Mathlib.Omega.{arith}
 use borrow.Author.Tests.{eq-eqb, ne-eqb, ltb-true, ltb-false}
 use Rattle.reader.specs.Words.{Reader}
 use Rattle.reader.specs.Trees.{Tree, leaf, tree, same}
-use Rattle.reader.specs.Laws.{tree-zero, tree-step, same-equal, same-self}
+use Rattle.reader.specs.TreeLaws.{tree-zero, tree-step, same-equal, same-self}
 
 -- the first of k records from j on whose tree is that of record i; else i itself
 unfoldable pub leastFrom : (ℕ → Tree) → ℕ → ℕ → ℕ → ℕ

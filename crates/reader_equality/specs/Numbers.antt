@@ -1,11 +1,11 @@
 -- The numbers of records, from the slots that have each record that is the least with its tree.
-use Prim.Native.Nat.{ℕ, _+_, _<_, _≤_}
+use Prim.Native.Nat.{ℕ, _+_, _<_}
 use mathlib.Core.Path.{_≡_, sym, _∙_}
 use mathlib.Core.List.{List}
 use mathlib.Core.Bool.{true}
 use native.Mathlib.Omega.{arith}
 use Rattle.reader_equality.specs.Least.{least, least-least, least-positive, Numbered}
-use Rattle.reader_equality.specs.Keys.{keyFrom, keyAt, key-numbers, key-tree, tree-key}
+use Rattle.reader_equality.specs.Keys.{keyFrom, key-numbers, key-tree, tree-key}
 use Rattle.reader_equality.specs.Slots.{Put, Entered, put-number, put-entered}
 use Rattle.reader.specs.Words.{Reader}
 use Rattle.reader.specs.Trees.{tree}

@@ -1,14 +1,14 @@
 -- The ways out of the code for lengths and headers, and what they say of counts.
-use Prim.Native.Nat.{ℕ, _+_, _-_, _/_, _%_, _<_, _≤_}
-use mathlib.Core.Path.{_≡_, refl, sym, ap, _∙_}
+use Prim.Native.Nat.{ℕ, _+_, _-_, _%_, _<_, _≤_}
+use mathlib.Core.Path.{_≡_, refl, sym, _∙_}
 use mathlib.Core.List.{List}
 use mathlib.Core.Bool.{Bool, true, false, not, false≢true}
 use lib.Dec.{eqb, leb}
 use lib.ListN.{length}
 use native.Mathlib.Omega.{arith}
-use borrow.Author.Tests.{eq-eqb, ne-eqb, le-leb, lt-leb, eqb-true, eqb-false, leb-true, leb-false, not-true, not-false}
+use borrow.Author.Tests.{eq-eqb, ne-eqb, le-leb, lt-leb, eqb-true, eqb-false, leb-true, not-true, not-false}
 use Rattle.reader.specs.Words.{wordOf, recordCount}
-use Rattle.reader.specs.Tests.{both, ifEq}
+use Rattle.reader.specs.Tests.{both}
 use Rattle.reader.specs.Places.{mostRecords, lengthFits, headerFits, countOf, countsFit}
 
 module _ (mode : ℕ) (s : List ℕ) where

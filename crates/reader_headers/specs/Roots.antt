@@ -1,20 +1,20 @@
 -- The ways out of the code for an obligation's roots.
-use Prim.Native.Nat.{ℕ, _<_}
-use mathlib.Core.Path.{_≡_, refl, sym, ap, _∙_}
-use mathlib.Core.List.{List, [], _∷_, map}
+use Prim.Native.Nat.{ℕ}
+use mathlib.Core.Path.{_≡_, ap}
+use mathlib.Core.List.{List, map}
 use mathlib.Core.Bool.{Bool, true, false, not}
 use lib.Dec.{eqb, leb}
 use lib.ListN.{length}
 use native.Mathlib.Omega.{arith}
 use borrow.Author.Tests.{eq-eqb, ne-eqb, not-true, not-false}
 use Rattle.reader.specs.Words.{Reader}
-use Rattle.reader.specs.Tests.{both, either, every, ifEq}
+use Rattle.reader.specs.Tests.{both, either, every, ifEq, ifLt}
 use Rattle.reader.specs.Kinds.{class}
-use Rattle.reader.specs.Trees.{Tree, leaf, node, lower, child, atom, tree, kindOf, atomOf}
-use Rattle.reader.specs.Chains.{linked, items, itemTrees}
+use Rattle.reader.specs.Trees.{Tree, lower, atom, tree, kindOf, atomOf}
+use Rattle.reader.specs.Chains.{linked, itemTrees}
 use Rattle.reader.specs.Variables.{indicesBelow, typesBelow, isClosed}
-use Rattle.reader.specs.Laws.{tree-zero, tree-step, items-zero, items-step}
-use Rattle.reader.specs.Places.{hypothesisChain, negatedGoal, goalFits, isHypothesis, typeCount, hypothesisFits, hypothesesFit}
+use Rattle.reader.specs.TreeLaws.{tree-zero, tree-step, items-zero, items-step}
+use Rattle.reader.specs.Places.{goalFits, isHypothesis, typeCount, hypothesisFits, hypothesesFit}
 
 -- no unbound index, and no type variable from n on
 unfoldable pub isOpenBelow : ℕ → Tree → Bool
@@ -41,12 +41,12 @@ hypothesis-of rd i p =
     (tree-step rd i (omega arith))
 
 pub hypothesis-none : (rd : Reader) (i : ℕ) → i ≡ 0 → false ≡ hypothesisFits (tree rd i)
-unfolding hypothesisFits isHypothesis kindOf either both class
+unfolding hypothesisFits isHypothesis kindOf either both class ifLt
 hypothesis-none rd i h = rw (h, tree-zero rd)
 
 module _ (rd : Reader) (i k : ℕ) (pos : i ≡ 0 → ⊥) (ek : k ≡ rd i 0) where
   pub hypothesis-types : k ≡ 22 → (a : ℕ) → a ≡ atom rd i → (t : Bool) → t ≡ isOpenBelow a (tree rd i) → t ≡ hypothesisFits (tree rd i)
-  unfolding both either ifEq class
+  unfolding both either ifEq class ifLt
   hypothesis-types h a ea t et = rw (hypothesis-of rd i pos, ← ek, ← ea, h) et
 
   module _ (other : k ≡ 22 → ⊥) (c : ℕ) (ec : c ≡ class k) where

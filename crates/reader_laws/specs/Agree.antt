@@ -9,14 +9,13 @@ use native.Mathlib.Omega.{arith}
 use borrow.Author.Tests.{eqb-true, ltb-true, leb-true, le-leb}
 use Rattle.reader.specs.Words.{Reader}
 use Rattle.reader.specs.Tests.{both, every, ifEq, ifLt}
-use Rattle.reader.specs.Kinds.{role}
-use Rattle.reader.specs.At.{classAt, roleAt}
+use Rattle.reader.specs.Kinds.{role, classAt, roleAt}
 use Rattle.reader.specs.Trees.{Tree, tree, lower, child, atom}
 use Rattle.reader.specs.Chains.{linked, items, itemTrees}
-use Rattle.reader.specs.Laws.{below, lower-below, child-below, tree-zero, tree-step, linked-zero, linked-step, items-zero, items-step}
+use Rattle.reader.specs.TreeLaws.{below, lower-below, child-below, tree-zero, tree-step, linked-zero, linked-step, items-zero, items-step}
 use Rattle.reader.specs.Names.{nameOf, nameSpace, recordBytes, nameBytes, characters, name, hasBytes, isName, sameName, takenBelow, nameTaken}
 use Rattle.reader.specs.Typing.{signature, functionTyped, applicationTyped, isTyped}
-use Rattle.reader.specs.Records.{inRange, rangeAt, mayBeZero, wantedClass, itemClass, hasClass, itemsHaveClass, refers, refersAt, nameFits, typesFit, argumentsFit, chainsOf, weightFits, nameStands, nameIsFree, typingFits}
+use Rattle.reader.specs.Records.{inRange, rangeAt, mayBeZero, wantedClass, itemClass, hasClass, itemsHaveClass, refers, refersAt, nameLengthFits, typesFit, argumentsFit, itemChainsFit, weightFits, nameSpelled, nameIsFree, typingFits}
 use Rattle.reader_laws.specs.Scan.{every-head}
 use Rattle.reader_laws.specs.Record.{Sound, word-most, name-most}
 
@@ -298,15 +297,15 @@ module _ (rd other : Reader) (m : ℕ) (agree : (i w : ℕ) → i ≤ m → rd i
         linked-agrees (rd i w) (omega arith) ∙ ap (linked other) (agree i w h)
 
     function-chain : rd i 0 ≡ 8 → typesFit rd (rd i 1) ≡ typesFit other (other i 1)
-    unfolding typesFit role ifLt
+    unfolding typesFit role ifLt ifEq
     function-chain e = rw (chain-agrees 8 1 e (omega arith) (omega arith) (omega arith))
 
     application-chain : rd i 0 ≡ 13 → both (typesFit rd (rd i 2)) (argumentsFit rd (rd i 3)) ≡ both (typesFit other (other i 2)) (argumentsFit other (other i 3))
-    unfolding typesFit argumentsFit role ifLt
+    unfolding typesFit argumentsFit role ifLt ifEq
     application-chain e = rw (chain-agrees 13 2 e (omega arith) (omega arith) (omega arith), chain-agrees 13 3 e (omega arith) (omega arith) (omega arith))
 
-    chains-agree : chainsOf rd i ≡ chainsOf other i
-    unfolding chainsOf ifEq
+    chains-agree : itemChainsFit rd i ≡ itemChainsFit other i
+    unfolding itemChainsFit ifEq
     chains-agree =
         go (eqb (rd i 0) 8) refl (eqb (rd i 0) 13) refl
         ∙ ap (λ (k : ℕ). ifEq k 8 (typesFit other (other i 1)) (ifEq k 13 (both (typesFit other (other i 2)) (argumentsFit other (other i 3))) true)) (agree i 0 h)
@@ -319,8 +318,8 @@ module _ (rd other : Reader) (m : ℕ) (agree : (i w : ℕ) → i ≤ m → rd i
         go false ea true eb = application-chain (eqb-true (rd i 0) 13 eb)
         go false ea false eb = refl
 
-    stands-agrees : nameStands rd i ≡ nameStands other i
-    unfolding nameStands ifEq
+    stands-agrees : nameSpelled rd i ≡ nameSpelled other i
+    unfolding nameSpelled ifEq
     stands-agrees =
         ap (λ (n : ℕ). ifEq n 0 true (isName rd i)) (name-of-agrees i h)
         ∙ ap (λ (b : Bool). ifEq (nameOf other i) 0 true b) (is-name-agrees i h (near i p (omega arith)))
@@ -332,7 +331,7 @@ module _ (rd other : Reader) (m : ℕ) (agree : (i w : ℕ) → i ≤ m → rd i
         ∙ ap (λ (b : Bool). ifEq (nameOf other i) 0 true (not b)) (name-taken-agrees i h near)
 
     pub sound-agrees : Sound mode other i
-    unfolding nameFits weightFits typingFits
+    unfolding nameLengthFits weightFits typingFits
     sound-agrees = record {
       kind = rw (← agree i 0 h) (own .kind);
       range = λ w a b. sym (range-at-agrees i w h) ∙ own .range w a b;

@@ -1,15 +1,14 @@
 -- The kinds of each class.
-use Prim.Native.Nat.{ℕ, zero, suc, _*_, _<_, _≤_}
+use Prim.Native.Nat.{ℕ, zero, suc, _<_, _≤_}
 use mathlib.Core.Path.{_≡_, refl, sym, ap, _∙_}
 use mathlib.Core.Bool.{Bool, true, false}
 use lib.Dec.{eqb, ltb}
 use native.Mathlib.Omega.{arith}
 use borrow.Author.Tests.{eqb-true, eqb-false, ltb-true, ltb-false}
 use Rattle.reader.specs.Words.{Reader}
-use Rattle.reader.specs.WordLaws.{past-end}
+use Rattle.reader.specs.KindLaws.{class-none}
 use Rattle.reader.specs.Tests.{both, ifEq, ifLt, between}
-use Rattle.reader.specs.Kinds.{records, class}
-use Rattle.reader.specs.At.{classAt}
+use Rattle.reader.specs.Kinds.{class, classAt}
 use Rattle.reader_laws.specs.Scan.{both-parts, when-equal, between-parts}
 
 -- the test holds of all numbers below n
@@ -28,8 +27,7 @@ all-below test (suc n) h k p = go (eqb k n) refl (both-parts (test n) (allBelow 
 
 -- kinds past 22 have no class
 pub class-past : (k : ℕ) → 23 ≤ k → class k ≡ 0
-unfolding class
-class-past k h = sym (past-end records (4 * k) (omega arith))
+class-past k h = sym (class-none k h)
 
 -- a kind of class c lies from `low` to `high`
 classBetween : ℕ → ℕ → ℕ → ℕ → Bool

@@ -8,13 +8,13 @@ use borrow.Author.Tests.{eqb-true, eqb-false}
 use Rattle.reader.specs.declared.Answer.{Answer}
 use Rattle.reader.specs.Words.{Reader}
 use Rattle.reader.specs.Tests.{every}
-use Rattle.reader.specs.Down.{down-zero}
+use Rattle.reader.specs.DownLaws.{down-zero}
 use Rattle.reader.specs.Kinds.{isRule}
 use Rattle.reader.specs.Trees.{lower}
 use Rattle.reader.specs.Chains.{items, premises}
-use Rattle.reader.specs.Laws.{below, lower-below, items-step}
+use Rattle.reader.specs.TreeLaws.{below, lower-below, items-step}
 use Rattle.reader.specs.Walk.{Walks, walkStep, noWalk, walks, walkNode, walkLinks}
-use Rattle.reader.specs.Meaning.{node-go, node-stop, link-zero, link-go, link-stop}
+use Rattle.reader.specs.WalkLaws.{node-go, node-stop, link-zero, link-go, link-stop}
 use Rattle.reader_laws.specs.Scan.{every-head}
 use Rattle.reader_laws.specs.Under.{under, underLinks, under-step, under-links}
 

@@ -13,7 +13,7 @@ use Rattle.reader.specs.Tests.{both, demand, every, ifEq, ifTrue}
 use Rattle.reader.specs.Kinds.{isRule}
 use Rattle.reader.specs.Trees.{Tree, tree}
 use Rattle.reader.specs.Chains.{linked, itemTrees}
-use Rattle.reader.specs.Laws.{linked-zero, items-zero}
+use Rattle.reader.specs.TreeLaws.{linked-zero, items-zero}
 use Rattle.reader.specs.Variables.{indicesBelow, typesBelow, isClosed}
 use Rattle.reader.specs.Records.{recordFault}
 use Rattle.reader.specs.Answers.{accepted}

@@ -10,3 +10,4 @@ pub mod Named
 pub mod Sums
 pub mod Under
 pub mod Entered
+pub mod NotionLaws

@@ -9,10 +9,10 @@ use native.Mathlib.Omega.{arith}
 use borrow.Author.Tests.{eq-eqb, lt-ltb}
 use Rattle.reader.specs.Words.{Reader}
 use Rattle.reader.specs.Tests.{every}
-use Rattle.reader.specs.At.{classAt}
+use Rattle.reader.specs.Kinds.{classAt}
 use Rattle.reader.specs.Trees.{lower}
 use Rattle.reader.specs.Chains.{linked, items}
-use Rattle.reader.specs.Laws.{below, lower-below, linked-zero, linked-step, items-zero, items-step}
+use Rattle.reader.specs.TreeLaws.{below, lower-below, linked-zero, linked-step, items-zero, items-step}
 use Rattle.reader.specs.Records.{hasClass, itemsHaveClass}
 use Rattle.reader_laws.specs.Scan.{every-at}
 use Rattle.reader_laws.specs.Record.{Sound, class-is, items-are}

@@ -10,8 +10,7 @@ use borrow.Author.Tests.{ltb-true, ltb-false, le-leb, lt-ltb}
 use Rattle.reader.specs.Words.{Reader, wordOf, through, word, recordCount}
 use Rattle.reader.specs.WordLaws.{word-past}
 use Rattle.reader.specs.Tests.{every, ifEq, ifLt, ifTrue, between}
-use Rattle.reader.specs.Kinds.{isRule, isKind, isSymbol, class}
-use Rattle.reader.specs.At.{classAt}
+use Rattle.reader.specs.Kinds.{isRule, isKind, isSymbol, class, classAt}
 use Rattle.reader.specs.Trees.{tree, lower, ¬ᵗ_}
 use Rattle.reader.specs.Chains.{linked, items, itemTrees, parts, premises}
 use Rattle.reader.specs.Variables.{isClosed}
@@ -286,7 +285,7 @@ module _ (mode : ℕ) (ob s : List ℕ) (r : ReadObligation ob) (t : ReadSecond 
 
   -- they start with a link, unless there are none
   pub pair-hypotheses-link : (hypothesisChain (beside ob s) ≡ 0 → ⊥) → classAt (beside ob s) (hypothesisChain (beside ob s)) ≡ 1
-  unfolding classAt class
+  unfolding classAt class ifLt
   pair-hypotheses-link differ =
       let same : hypothesisChain (alone ob) ≡ hypothesisChain (beside ob s) = obligation-hypotheses ob s in
       let link : alone ob (hypothesisChain (alone ob)) 0 ≡ 1 = hypotheses-link (alone ob) (r .hypotheses) (λ z. differ (sym same ∙ z)) in

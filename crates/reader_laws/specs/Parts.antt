@@ -7,10 +7,10 @@ use native.Mathlib.Omega.{arith}
 use borrow.Author.Tests.{eqb-true, eqb-false}
 use Rattle.reader.specs.Words.{Reader}
 use Rattle.reader.specs.Tests.{ifEq, ifLt}
-use Rattle.reader.specs.Kinds.{isSymbol, isNumber, ruleRole, role}
-use Rattle.reader.specs.At.{classAt, roleAt}
+use Rattle.reader.specs.Kinds.{isSymbol, isNumber, role, classAt, roleAt}
 use Rattle.reader.specs.Trees.{Tree, leaf, node, tree, lower, child, atom}
-use Rattle.reader.specs.Laws.{tree-zero, tree-step}
+use Rattle.reader.specs.KindLaws.{rule-role}
+use Rattle.reader.specs.TreeLaws.{tree-zero, tree-step}
 use Rattle.reader.specs.Records.{mayBeZero, wantedClass, itemClass, hasClass, itemsHaveClass, refersAt}
 use Rattle.reader_laws.specs.Scan.{when-less, when-not-less, when-true, when-false}
 use Rattle.reader_laws.specs.Record.{Sound, role-known, reference-given, reference-below, reference-class, reference-items, reference-lower, class-is, word-three, word-four, word-index, word-count}
@@ -347,164 +347,164 @@ module _ (mode : ℕ) (rd : Reader) (i : ℕ) (s : Sound mode rd i) (p : 1 ≤ i
 -- The records that the words of the kinds name, and their numbers.
 module _ (mode : ℕ) (rd : Reader) (i : ℕ) (s : Sound mode rd i) where
   pub link-third : rd i 0 ≡ 1 → Chain rd i 3 0
-  unfolding role ifLt
+  unfolding role ifLt ifEq
   link-third e = next-chain mode rd i s 1 e 3 (omega arith) (omega arith) refl
 
   pub given-type-first : rd i 0 ≡ 3 → Part rd i 1 2
-  unfolding role ifLt
+  unfolding role ifLt ifEq
   given-type-first e = name-part mode rd i s 3 e 1 (omega arith) (omega arith) refl
 
   pub set-type-first : rd i 0 ≡ 4 → Part rd i 1 3
-  unfolding role ifLt
+  unfolding role ifLt ifEq
   set-type-first e = type-part mode rd i s 4 e 1 (omega arith) (omega arith) refl
 
   pub pair-type-first : rd i 0 ≡ 5 → Part rd i 1 3
-  unfolding role ifLt
+  unfolding role ifLt ifEq
   pair-type-first e = type-part mode rd i s 5 e 1 (omega arith) (omega arith) refl
 
   pub pair-type-second : rd i 0 ≡ 5 → Part rd i 2 3
-  unfolding role ifLt
+  unfolding role ifLt ifEq
   pair-type-second e = type-part mode rd i s 5 e 2 (omega arith) (omega arith) refl
 
   pub type-variable-first : rd i 0 ≡ 6 → rd i 1 < 4
-  unfolding role ifLt
+  unfolding role ifLt ifEq
   type-variable-first e = word-three rd i 1 (s .range 1 (omega arith) (omega arith)) (role-known rd i 1 6 e)
 
   pub constant-first : rd i 0 ≡ 7 → Part rd i 1 3
-  unfolding role ifLt
+  unfolding role ifLt ifEq
   constant-first e = type-part mode rd i s 7 e 1 (omega arith) (omega arith) refl
 
   pub constant-second : rd i 0 ≡ 7 → Part rd i 2 2
-  unfolding role ifLt
+  unfolding role ifLt ifEq
   constant-second e = name-part mode rd i s 7 e 2 (omega arith) (omega arith) refl
 
   pub function-first : rd i 0 ≡ 8 → Chain rd i 1 3
-  unfolding role ifLt
+  unfolding role ifLt ifEq
   function-first e = signature-chain mode rd i s 8 e 1 (omega arith) (omega arith) refl
 
   pub function-first-given : rd i 0 ≡ 8 → Part rd i 1 1
-  unfolding role ifLt
+  unfolding role ifLt ifEq
   function-first-given e = signature-part mode rd i s 8 e 1 (omega arith) (omega arith) refl
 
   pub function-second : rd i 0 ≡ 8 → rd i 2 < 5
-  unfolding role ifLt
+  unfolding role ifLt ifEq
   function-second e = word-four rd i 2 (s .range 2 (omega arith) (omega arith)) (role-known rd i 2 8 e)
 
   pub function-third : rd i 0 ≡ 8 → Part rd i 3 2
-  unfolding role ifLt
+  unfolding role ifLt ifEq
   function-third e = name-part mode rd i s 8 e 3 (omega arith) (omega arith) refl
 
   pub bound-variable-first : rd i 0 ≡ 9 → rd i 1 < 64
-  unfolding role ifLt
+  unfolding role ifLt ifEq
   bound-variable-first e = word-index rd i 1 (s .range 1 (omega arith) (omega arith)) (role-known rd i 1 9 e)
 
   pub bound-variable-second : rd i 0 ≡ 9 → Part rd i 2 3
-  unfolding role ifLt
+  unfolding role ifLt ifEq
   bound-variable-second e = type-part mode rd i s 9 e 2 (omega arith) (omega arith) refl
 
   pub pair-first : rd i 0 ≡ 10 → Part rd i 1 4
-  unfolding role ifLt
+  unfolding role ifLt ifEq
   pair-first e = term-part mode rd i s 10 e 1 (omega arith) (omega arith) refl
 
   pub pair-second : rd i 0 ≡ 10 → Part rd i 2 4
-  unfolding role ifLt
+  unfolding role ifLt ifEq
   pair-second e = term-part mode rd i s 10 e 2 (omega arith) (omega arith) refl
 
   pub pair-third : rd i 0 ≡ 10 → Part rd i 3 3
-  unfolding role ifLt
+  unfolding role ifLt ifEq
   pair-third e = type-part mode rd i s 10 e 3 (omega arith) (omega arith) refl
 
   pub product-first : rd i 0 ≡ 11 → Part rd i 1 4
-  unfolding role ifLt
+  unfolding role ifLt ifEq
   product-first e = term-part mode rd i s 11 e 1 (omega arith) (omega arith) refl
 
   pub product-second : rd i 0 ≡ 11 → Part rd i 2 4
-  unfolding role ifLt
+  unfolding role ifLt ifEq
   product-second e = term-part mode rd i s 11 e 2 (omega arith) (omega arith) refl
 
   pub product-third : rd i 0 ≡ 11 → Part rd i 3 3
-  unfolding role ifLt
+  unfolding role ifLt ifEq
   product-third e = type-part mode rd i s 11 e 3 (omega arith) (omega arith) refl
 
   pub powerset-first : rd i 0 ≡ 12 → Part rd i 1 4
-  unfolding role ifLt
+  unfolding role ifLt ifEq
   powerset-first e = term-part mode rd i s 12 e 1 (omega arith) (omega arith) refl
 
   pub powerset-second : rd i 0 ≡ 12 → Part rd i 2 3
-  unfolding role ifLt
+  unfolding role ifLt ifEq
   powerset-second e = type-part mode rd i s 12 e 2 (omega arith) (omega arith) refl
 
   pub application-first : rd i 0 ≡ 13 → Part rd i 1 6
-  unfolding role ifLt
+  unfolding role ifLt ifEq
   application-first e = function-part mode rd i s 13 e 1 (omega arith) (omega arith) refl
 
   pub application-second : rd i 0 ≡ 13 → Chain rd i 2 3
-  unfolding role ifLt
+  unfolding role ifLt ifEq
   application-second e = types-chain mode rd i s 13 e 2 (omega arith) (omega arith) refl
 
   pub application-second-given : rd i 0 ≡ 13 → Part rd i 2 1
-  unfolding role ifLt
+  unfolding role ifLt ifEq
   application-second-given e = types-part mode rd i s 13 e 2 (omega arith) (omega arith) refl
 
   pub application-third : rd i 0 ≡ 13 → Chain rd i 3 4
-  unfolding role ifLt
+  unfolding role ifLt ifEq
   application-third e = terms-chain mode rd i s 13 e 3 (omega arith) (omega arith) refl
 
   pub and-first : rd i 0 ≡ 16 → Part rd i 1 5
-  unfolding role ifLt
+  unfolding role ifLt ifEq
   and-first e = formula-part mode rd i s 16 e 1 (omega arith) (omega arith) refl
 
   pub and-second : rd i 0 ≡ 16 → Part rd i 2 5
-  unfolding role ifLt
+  unfolding role ifLt ifEq
   and-second e = formula-part mode rd i s 16 e 2 (omega arith) (omega arith) refl
 
   pub implies-first : rd i 0 ≡ 17 → Part rd i 1 5
-  unfolding role ifLt
+  unfolding role ifLt ifEq
   implies-first e = formula-part mode rd i s 17 e 1 (omega arith) (omega arith) refl
 
   pub implies-second : rd i 0 ≡ 17 → Part rd i 2 5
-  unfolding role ifLt
+  unfolding role ifLt ifEq
   implies-second e = formula-part mode rd i s 17 e 2 (omega arith) (omega arith) refl
 
   pub not-first : rd i 0 ≡ 18 → Part rd i 1 5
-  unfolding role ifLt
+  unfolding role ifLt ifEq
   not-first e = formula-part mode rd i s 18 e 1 (omega arith) (omega arith) refl
 
   pub for-all-first : rd i 0 ≡ 19 → Part rd i 1 3
-  unfolding role ifLt
+  unfolding role ifLt ifEq
   for-all-first e = type-part mode rd i s 19 e 1 (omega arith) (omega arith) refl
 
   pub for-all-second : rd i 0 ≡ 19 → Part rd i 2 5
-  unfolding role ifLt
+  unfolding role ifLt ifEq
   for-all-second e = formula-part mode rd i s 19 e 2 (omega arith) (omega arith) refl
 
   pub equal-first : rd i 0 ≡ 20 → Part rd i 1 4
-  unfolding role ifLt
+  unfolding role ifLt ifEq
   equal-first e = term-part mode rd i s 20 e 1 (omega arith) (omega arith) refl
 
   pub equal-second : rd i 0 ≡ 20 → Part rd i 2 4
-  unfolding role ifLt
+  unfolding role ifLt ifEq
   equal-second e = term-part mode rd i s 20 e 2 (omega arith) (omega arith) refl
 
   pub member-first : rd i 0 ≡ 21 → Part rd i 1 4
-  unfolding role ifLt
+  unfolding role ifLt ifEq
   member-first e = term-part mode rd i s 21 e 1 (omega arith) (omega arith) refl
 
   pub member-second : rd i 0 ≡ 21 → Part rd i 2 4
-  unfolding role ifLt
+  unfolding role ifLt ifEq
   member-second e = term-part mode rd i s 21 e 2 (omega arith) (omega arith) refl
 
   pub for-all-types-first : rd i 0 ≡ 22 → (1 ≤ rd i 1) × (rd i 1 ≤ 4)
-  unfolding role ifLt
+  unfolding role ifLt ifEq
   for-all-types-first e = word-count rd i 1 (s .range 1 (omega arith) (omega arith)) (role-known rd i 1 22 e)
 
   pub for-all-types-second : rd i 0 ≡ 22 → Part rd i 2 5
-  unfolding role ifLt
+  unfolding role ifLt ifEq
   for-all-types-second e = formula-part mode rd i s 22 e 2 (omega arith) (omega arith) refl
 
   -- a link's item is a smaller record that is not 0
   pub link-item : rd i 0 ≡ 1 → (1 ≤ rd i 1) × (rd i 1 < i) × (lower rd i 1 ≡ rd i 1)
-  unfolding role ifLt mayBeZero
+  unfolding role ifLt mayBeZero ifEq
   link-item e =
       let same : roleAt rd i 1 ≡ 10 = role-known rd i 1 1 e in
       let is : 6 ≤ roleAt rd i 1 = omega arith in
@@ -514,16 +514,16 @@ module _ (mode : ℕ) (rd : Reader) (i : ℕ) (s : Sound mode rd i) where
 
   -- a rule node's chains of parts and of premises
   pub rule-parts : 32 ≤ rd i 0 → Chain rd i 1 0
-  unfolding role ruleRole
-  rule-parts h = rule-chain mode rd i s (rd i 0) refl 1 (omega arith) (omega arith) (when-not-less _ (ruleRole 1) (rd i 0) 32 h)
+  unfolding role ifEq ifLt
+  rule-parts h = rule-chain mode rd i s (rd i 0) refl 1 (omega arith) (omega arith) (rule-role (rd i 0) h 1)
 
   pub rule-premises : 32 ≤ rd i 0 → Chain rd i 2 0
-  unfolding role ruleRole
-  rule-premises h = rule-chain mode rd i s (rd i 0) refl 2 (omega arith) (omega arith) (when-not-less _ (ruleRole 2) (rd i 0) 32 h)
+  unfolding role ifEq ifLt
+  rule-premises h = rule-chain mode rd i s (rd i 0) refl 2 (omega arith) (omega arith) (rule-role (rd i 0) h 2)
 
   -- the name record after a name record is one, or 0
   pub name-third : rd i 0 ≡ 2 → (lower rd i 3 ≡ rd i 3) × ((rd i 3 ≡ 0 → ⊥) → classAt rd (rd i 3) ≡ 2)
-  unfolding role ifLt wantedClass
+  unfolding role ifLt wantedClass ifEq
   name-third e =
       let same : roleAt rd i 3 ≡ 7 = role-known rd i 3 2 e in
       let is : 6 ≤ roleAt rd i 3 = omega arith in

@@ -9,14 +9,13 @@ use native.Mathlib.Omega.{arith}
 use borrow.Author.Tests.{eq-eqb, eqb-true, eqb-false, ltb-true, ltb-false, leb-true, not-true}
 use Rattle.reader.specs.Words.{Reader}
 use Rattle.reader.specs.Tests.{both, every, ifEq, ifLt}
-use Rattle.reader.specs.Kinds.{isKind, isSymbol, role}
-use Rattle.reader.specs.At.{classAt, roleAt}
+use Rattle.reader.specs.Kinds.{isKind, isSymbol, role, classAt, roleAt}
 use Rattle.reader.specs.Trees.{tree, lower}
 use Rattle.reader.specs.Chains.{linked, items}
 use Rattle.reader.specs.Weight.{isWeighed, weight}
 use Rattle.reader.specs.Names.{nameOf, nameSpace, name, isName, sameName, takenBelow, nameTaken}
 use Rattle.reader.specs.Typing.{isTyped}
-use Rattle.reader.specs.Records.{inRange, rangeAt, rangesFit, mayBeZero, wantedClass, itemClass, hasClass, itemsHaveClass, refers, refersAt, referencesFit, nameFits, typesFit, argumentsFit, chainsOf, chainsFit, mostWeight, weightFits, nameStands, nameIsFree, typingFits, kindFits, wordsFault, contentFault, recordFault}
+use Rattle.reader.specs.Records.{inRange, rangeAt, rangesFit, mayBeZero, wantedClass, itemClass, hasClass, itemsHaveClass, refers, refersAt, referencesFit, nameLengthFits, typesFit, argumentsFit, itemChainsFit, chainsFit, mostWeight, weightFits, nameSpelled, nameIsFree, typingFits, kindFits, wordsFault, contentFault, recordFault}
 use Rattle.reader_laws.specs.Scan.{both-parts, both-join, demand-parts, demand-join, orElse-parts, orElse-join, when-equal, when-different, when-less, when-not-less, when-true, between-parts}
 
 -- record i of a file of kind `mode` has no fault
@@ -24,10 +23,10 @@ pub record Sound (mode : ℕ) (rd : Reader) (i : ℕ) : Type 0 where
   pub kind : isKind mode (rd i 0) ≡ true
   pub range : (w : ℕ) → 1 ≤ w → w ≤ 3 → rangeAt rd i w ≡ true
   pub reference : (w : ℕ) → 1 ≤ w → w ≤ 3 → refersAt rd i w ≡ true
-  pub nameLength : nameFits rd i ≡ true
-  pub chains : chainsOf rd i ≡ true
+  pub nameLength : nameLengthFits rd i ≡ true
+  pub chains : itemChainsFit rd i ≡ true
   pub weighs : weightFits mode rd i ≡ true
-  pub named : nameStands rd i ≡ true
+  pub named : nameSpelled rd i ≡ true
   pub free : nameIsFree rd i ≡ true
   pub typed : typingFits mode rd i ≡ true
 
@@ -56,7 +55,7 @@ record-parts mode rd i h =
     let r2 = both-parts (rangeAt rd i 2) (rangeAt rd i 3) (r1 .1) in
     let f1 = both-parts (refersAt rd i 1) (both (refersAt rd i 2) (refersAt rd i 3)) (f .0) in
     let f2 = both-parts (refersAt rd i 2) (refersAt rd i 3) (f1 .1) in
-    let c1 = both-parts (nameFits rd i) (chainsOf rd i) (c .0) in
+    let c1 = both-parts (nameLengthFits rd i) (itemChainsFit rd i) (c .0) in
     record {
       kind = k .0;
       range = words (λ w. rangeAt rd i w ≡ true) (r1 .0) (r2 .0) (r2 .1);
@@ -79,7 +78,7 @@ record-join mode rd i s =
     let references : referencesFit rd i ≡ true =
     both-join (refersAt rd i 1) (both (refersAt rd i 2) (refersAt rd i 3)) (s .reference 1 (omega arith) (omega arith))
     (both-join (refersAt rd i 2) (refersAt rd i 3) (s .reference 2 (omega arith) (omega arith)) (s .reference 3 (omega arith) (omega arith))) in
-    let chains : chainsFit rd i ≡ true = both-join (nameFits rd i) (chainsOf rd i) (s .nameLength) (s .chains) in
+    let chains : chainsFit rd i ≡ true = both-join (nameLengthFits rd i) (itemChainsFit rd i) (s .nameLength) (s .chains) in
     orElse-join (wordsFault mode rd i) (contentFault mode rd i)
     (demand-join _ 3 _ (s .kind) (demand-join _ 4 _ ranges (demand-join _ 5 _ references (demand-join _ 6 0 chains refl))))
     (demand-join _ 7 _ (s .weighs) (demand-join _ 8 _ (s .named) (demand-join _ 9 _ (s .free) (demand-join _ 10 0 (s .typed) refl))))
@@ -174,16 +173,16 @@ module _ (mode : ℕ) (rd : Reader) (i : ℕ) (s : Sound mode rd i) where
 
   -- its name has at most 4 records
   pub name-length : length (linked rd (nameOf rd i)) ≤ 4
-  unfolding nameFits
+  unfolding nameLengthFits
   name-length = leb-true (length (linked rd (nameOf rd i))) 4 (s .nameLength)
 
   -- a function has 1 to 5 types
   pub function-types : rd i 0 ≡ 8 → (1 ≤ length (linked rd (rd i 1))) × (length (linked rd (rd i 1)) ≤ 5)
-  unfolding chainsOf typesFit
+  unfolding itemChainsFit typesFit
   function-types e = between-parts 1 5 (length (linked rd (rd i 1))) (sym (when-equal _ _ (rd i 0) 8 e) ∙ s .chains)
 
   application-chains : rd i 0 ≡ 13 → both (typesFit rd (rd i 2)) (argumentsFit rd (rd i 3)) ≡ true
-  unfolding chainsOf
+  unfolding itemChainsFit
   application-chains e =
       let no : rd i 0 ≡ 8 → ⊥ = λ q. omega arith in
       sym (when-equal _ true (rd i 0) 13 e) ∙ sym (when-different (typesFit rd (rd i 1)) _ (rd i 0) 8 no) ∙ s .chains
@@ -200,7 +199,7 @@ module _ (mode : ℕ) (rd : Reader) (i : ℕ) (s : Sound mode rd i) where
 
   -- a symbol's name is a name
   pub name-is-name : (nameOf rd i ≡ 0 → ⊥) → isName rd i ≡ true
-  unfolding nameStands ifEq
+  unfolding nameSpelled ifEq
   name-is-name p = sym (when-different true (isName rd i) (nameOf rd i) 0 p) ∙ s .named
 
   -- and not taken

@@ -7,11 +7,12 @@ use native.Mathlib.Omega.{arith}
 use native.Mathlib.Nat.{zero-mul, one-mul, mul-zero}
 use Rattle.reader.specs.Words.{Reader}
 use Rattle.reader.specs.Tests.{ifEq, ifTrue}
-use Rattle.reader.specs.Down.{down, Local, down-zero, down-step}
+use Rattle.reader.specs.Down.{down}
+use Rattle.reader.specs.DownLaws.{Local, down-zero, down-step}
 use Rattle.reader.specs.Kinds.{isRule}
 use Rattle.reader.specs.Trees.{lower}
 use Rattle.reader.specs.Chains.{items, premises}
-use Rattle.reader.specs.Laws.{below, lower-below, items-zero, items-step}
+use Rattle.reader.specs.TreeLaws.{below, lower-below, items-zero, items-step}
 use Rattle.reader.specs.Places.{rootOf, countOf, timesIn, namings}
 use Rattle.reader_laws.specs.Scan.{when-true, when-false}
 use Rattle.reader_laws.specs.File.{beside, lastOf, ReadObligation, ReadSecond}

@@ -10,9 +10,9 @@ use borrow.Author.Tests.{ne-eqb, lt-ltb, leb-true}
 use Rattle.reader.specs.Words.{Reader}
 use Rattle.reader.specs.Tests.{both, every, ifEq}
 use Rattle.reader.specs.Chains.{linked}
-use Rattle.reader.specs.Laws.{linked-zero}
+use Rattle.reader.specs.TreeLaws.{linked-zero}
 use Rattle.reader.specs.Names.{nameOf, nameSpace, nameBytes, accented, single, characters, name, hasBytes, startsWell, isName}
-use Rattle.reader.specs.Records.{nameFits, nameStands}
+use Rattle.reader.specs.Records.{nameLengthFits, nameSpelled}
 use Rattle.reader_equality.specs.declared.Key.{Key}
 use Rattle.reader_characters.specs.Cursor.{isSpelled}
 use Rattle.reader_characters.specs.Laws.{bytes-most}
@@ -160,10 +160,10 @@ starts-some [] h = absurd (false≢true h)
 starts-some (c ∷ cs) h = omega arith
 
 -- a name with its records and its characters as they must be has a key
-pub named-key : (rd : Reader) (i : ℕ) → (nameOf rd i ≡ 0 → ⊥) → nameFits rd i ≡ true → nameStands rd i ≡ true → 0 < (nameKey rd i) .kind
-unfolding nameKey nameFits nameStands isName isSpelled bound
+pub named-key : (rd : Reader) (i : ℕ) → (nameOf rd i ≡ 0 → ⊥) → nameLengthFits rd i ≡ true → nameSpelled rd i ≡ true → 0 < (nameKey rd i) .kind
+unfolding nameKey nameLengthFits nameSpelled isName isSpelled bound
 named-key rd i p fits stands =
-    let is : isName rd i ≡ true = simp (nameStands, ne-eqb (nameOf rd i) 0 p) at stands in
+    let is : isName rd i ≡ true = simp (nameSpelled, ne-eqb (nameOf rd i) 0 p) at stands in
     let well = both-second (every (hasBytes rd) (linked rd (nameOf rd i))) _ is in
     let spells : Characters (name rd i) = record { spelled = both-first (isSpelled (name rd i)) _ well; small = name-small rd i } in
     let some = starts-some (name rd i) (both-second (isSpelled (name rd i)) _ well) in

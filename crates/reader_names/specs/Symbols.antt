@@ -11,9 +11,9 @@ use Rattle.reader.specs.Words.{Reader}
 use Rattle.reader.specs.Tests.{both, every}
 use Rattle.reader.specs.Trees.{lower}
 use Rattle.reader.specs.Chains.{linked}
-use Rattle.reader.specs.Laws.{linked-zero, linked-step}
+use Rattle.reader.specs.TreeLaws.{linked-zero, linked-step}
 use Rattle.reader.specs.Names.{nameOf, characters, name, hasBytes, startsWell, isName}
-use Rattle.reader.specs.Records.{nameFits, nameStands}
+use Rattle.reader.specs.Records.{nameLengthFits, nameSpelled}
 use Rattle.reader_characters.specs.Cursor.{restBytes, isSpelled}
 use Rattle.reader_characters.specs.Laws.{rest-start}
 
@@ -21,8 +21,8 @@ use Rattle.reader_characters.specs.Laws.{rest-start}
 unfoldable pub allHaveBytes : Reader → ℕ → Bool
 allHaveBytes rd c = every (hasBytes rd) (linked rd c)
 
-pub fits-is : (rd : Reader) (i c : ℕ) (r : Bool) → c ≡ nameOf rd i → r ≡ leb (length (linked rd c)) 4 → r ≡ nameFits rd i
-unfolding nameFits
+pub fits-is : (rd : Reader) (i c : ℕ) (r : Bool) → c ≡ nameOf rd i → r ≡ leb (length (linked rd c)) 4 → r ≡ nameLengthFits rd i
+unfolding nameLengthFits
 fits-is rd i c r e q = rw (← e) q
 
 -- The ways out of `has_bytes`.
@@ -61,11 +61,11 @@ name-from rd i c e = rw (← e, rest-start rd c)
 
 -- The ways out of `name_stands`.
 module _ (rd : Reader) (i c : ℕ) (e : c ≡ nameOf rd i) where
-  pub stands-none : c ≡ 0 → true ≡ nameStands rd i
-  unfolding nameStands
-  stands-none z = simp (nameStands, ← e, eq-eqb c 0 z)
+  pub stands-none : c ≡ 0 → true ≡ nameSpelled rd i
+  unfolding nameSpelled
+  stands-none z = simp (nameSpelled, ← e, eq-eqb c 0 z)
 
   pub stands-some : (r : Bool) → (c ≡ 0 → ⊥) →
-      r ≡ both (allHaveBytes rd c) (both (isSpelled (characters (restBytes rd c 0))) (startsWell (characters (restBytes rd c 0)))) → r ≡ nameStands rd i
-  unfolding nameStands isName allHaveBytes isSpelled
-  stands-some r p q = simp (nameStands, isName, name-from rd i c e, ← e, ne-eqb c 0 p) q
+      r ≡ both (allHaveBytes rd c) (both (isSpelled (characters (restBytes rd c 0))) (startsWell (characters (restBytes rd c 0)))) → r ≡ nameSpelled rd i
+  unfolding nameSpelled isName allHaveBytes isSpelled
+  stands-some r p q = simp (nameSpelled, isName, name-from rd i c e, ← e, ne-eqb c 0 p) q

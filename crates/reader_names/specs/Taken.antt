@@ -10,7 +10,7 @@ use borrow.Author.Tests.{eq-eqb, ne-eqb, eqb-true, eqb-false, ltb-true, ltb-fals
 use Rattle.reader.specs.Words.{Reader}
 use Rattle.reader.specs.Tests.{both}
 use Rattle.reader.specs.Names.{nameOf, nameSpace, name, sameName, takenBelow, nameTaken}
-use Rattle.reader.specs.Records.{nameFits, nameStands, nameIsFree}
+use Rattle.reader.specs.Records.{nameLengthFits, nameSpelled, nameIsFree}
 use Rattle.reader_equality.specs.declared.Key.{Key}
 use Rattle.reader_equality.specs.Tables.{Zeros}
 use Rattle.reader_equality.specs.Slots.{In, Placed, Put, Ended, placed-none, placed-next, old-put, new-put}
@@ -211,7 +211,7 @@ module _ (rd : Reader) (slots : List ℕ) (k : Key) (i : ℕ) (p : 0 < i) (ek : 
     enter-new z l = looked-up rd slots (set slots r i) i i p has-key names (new-put (nameKey rd) slots k i r p ek (names .placed) ended (sym ej ∙ z) l)
 
 -- what `name_is_free` says
-pub looked-free : (rd : Reader) (i r : ℕ) (after : List ℕ) → nameFits rd i ≡ true → nameStands rd i ≡ true → Looked rd i r after → eqb r i ≡ nameIsFree rd i
+pub looked-free : (rd : Reader) (i r : ℕ) (after : List ℕ) → nameLengthFits rd i ≡ true → nameSpelled rd i ≡ true → Looked rd i r after → eqb r i ≡ nameIsFree rd i
 unfolding nameIsFree
 looked-free rd i r after fits stands looked = go (eqb (nameOf rd i) 0) refl
   where

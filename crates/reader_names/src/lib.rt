@@ -13,13 +13,13 @@ ghost use Prim.Native.Nat.{_+_, _*_, _<_, _≤_};
 ghost use lib.ListN.{length};
 ghost use Rattle.reader.specs.Words.{word};
 ghost use Rattle.reader.specs.Names.{hasBytes};
-ghost use Rattle.reader.specs.Records.{nameFits, nameStands, nameIsFree};
+ghost use Rattle.reader.specs.Records.{nameLengthFits, nameSpelled, nameIsFree};
 ghost use Rattle.reader_names.specs.Symbols.{allHaveBytes};
 ghost use Rattle.reader_names.specs.Taken.{Room, Names};
 
 // Has symbol i's name at most 4 records?
-pub fn name_fits(obligation: &[u8], second: &[u8], m: usize, i: usize) -> bool
-    ensures { λ r. ⌜ r ≡ nameFits (word (now (obligation .entry)) (now (second .entry)) m) i ⌝ }
+pub fn name_length_fits(obligation: &[u8], second: &[u8], m: usize, i: usize) -> bool
+    ensures { λ r. ⌜ r ≡ nameLengthFits (word (now (obligation .entry)) (now (second .entry)) m) i ⌝ }
 {
     let first = symbols::name_of(obligation, second, m, i);
     chains::at_most(obligation, second, m, first, 4)
@@ -50,8 +50,8 @@ fn all_have_bytes(obligation: &[u8], second: &[u8], m: usize, first: usize) -> b
 }
 
 // Are symbol i's name records and their characters as they must be? True for a record that names none.
-pub fn name_stands(obligation: &[u8], second: &[u8], m: usize, i: usize) -> bool
-    ensures { λ r. ⌜ r ≡ nameStands (word (now (obligation .entry)) (now (second .entry)) m) i ⌝ }
+pub fn name_spelled(obligation: &[u8], second: &[u8], m: usize, i: usize) -> bool
+    ensures { λ r. ⌜ r ≡ nameSpelled (word (now (obligation .entry)) (now (second .entry)) m) i ⌝ }
 {
     let c = symbols::name_of(obligation, second, m, i);
     if c == 0 {
@@ -68,7 +68,7 @@ pub fn name_stands(obligation: &[u8], second: &[u8], m: usize, i: usize) -> bool
 
 // Has no symbol before i the name of symbol i, in its name space? True for a record that names none. The slots have the names below i, and then that of i.
 pub fn name_is_free(obligation: &[u8], second: &[u8], m: usize, slots: &mut [u32], i: usize) -> bool
-    requires { ⌜ (0 < i) × Room (now slots) i × Names (word (now obligation) (now second) m) (now slots) i × (nameFits (word (now obligation) (now second) m) i ≡ true) × (nameStands (word (now obligation) (now second) m) i ≡ true) ⌝ }
+    requires { ⌜ (0 < i) × Room (now slots) i × Names (word (now obligation) (now second) m) (now slots) i × (nameLengthFits (word (now obligation) (now second) m) i ≡ true) × (nameSpelled (word (now obligation) (now second) m) i ≡ true) ⌝ }
     ensures { λ r. ⌜ (r ≡ nameIsFree (word (now (obligation .entry)) (now (second .entry)) m) i) × Names (word (now (obligation .entry)) (now (second .entry)) m) (now (slots .exit)) (i + 1) ⌝ }
 {
     slots::enter(obligation, second, m, slots, i) == i

@@ -1,7 +1,7 @@
 -- Tables of counts up to 2: how often a node is named, and how often a link is run over.
 use Prim.Native.Nat.{ℕ, zero, suc, _+_, _-_, _<_, _≤_, min}
 use mathlib.Core.Path.{_≡_, refl, sym, ap, subst, _∙_}
-use mathlib.Core.List.{List, [], _∷_}
+use mathlib.Core.List.{List}
 use mathlib.Core.Bool.{Bool, true, false}
 use mathlib.Core.Logic.{_⊎_, inl, inr, ⊎-elim}
 use lib.Dec.{eqb}
@@ -14,7 +14,7 @@ use Rattle.reader.specs.Tests.{ifEq}
 use Rattle.reader.specs.Trees.{lower}
 use Rattle.reader.specs.Chains.{items}
 use Rattle.reader.specs.Places.{timesIn}
-use Rattle.reader.specs.Laws.{lower-below, items-zero, items-step}
+use Rattle.reader.specs.TreeLaws.{lower-below, items-zero, items-step}
 
 -- entry k one more, at most 2
 unfoldable pub bumped : List ℕ → ℕ → List ℕ

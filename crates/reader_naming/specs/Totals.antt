@@ -1,5 +1,5 @@
 -- The counts of all premise chains, and the first rule node that is not named exactly once.
-use Prim.Native.Nat.{ℕ, zero, suc, _+_, _-_, _<_, _≤_, min}
+use Prim.Native.Nat.{ℕ, _+_, _-_, _<_, _≤_, min}
 use mathlib.Core.Path.{_≡_, refl, sym, ap, _∙_}
 use mathlib.Core.List.{List}
 use mathlib.Core.Bool.{Bool, true, false, not}
@@ -13,7 +13,7 @@ use Rattle.reader.specs.Words.{Reader}
 use Rattle.reader.specs.Tests.{demand, ifEq, ifTrue}
 use Rattle.reader.specs.Kinds.{isRule}
 use Rattle.reader.specs.Trees.{lower}
-use Rattle.reader.specs.Chains.{items, premises}
+use Rattle.reader.specs.Chains.{premises}
 use Rattle.reader.specs.Answers.{firstFault}
 use Rattle.reader.specs.AnswerLaws.{scan-same}
 use Rattle.reader.specs.Places.{timesIn, namings, namingFault}

@@ -1,81 +1,28 @@
 // Places 1 to 12, top to bottom, the obligation through all of its places first.
 use reader::Answer;
-use reader::kinds;
 use reader::words;
+use reader_bodies::bodies;
 use reader_equality::numbers::number_all;
 use reader_headers::headers;
-use reader_headers::roots;
-use reader_records::faults;
 ghost use mathlib.Core.Path.{_≡_};
-ghost use Prim.Native.Nat.{_+_, _-_, _*_, _<_, _≤_};
+ghost use Prim.Native.Nat.{_-_, _<_};
 ghost use lib.ListN.{length};
-ghost use Rattle.reader.specs.Answers.{firstFault};
-ghost use Rattle.reader.specs.Records.{recordFault};
-ghost use Rattle.reader_names.specs.Taken.{Room};
-ghost use Rattle.reader.specs.Places.{countOf, rootOf, obligationReading, secondReading, reading};
+ghost use Rattle.reader.specs.Places.{countOf, obligationReading, secondReading, reading};
 ghost use Rattle.reader_equality.specs.Least.{Numbered};
 ghost use Rattle.reader_equality.specs.Tables.{Zeros};
-ghost use Rattle.reader_weights.specs.Weights.{fileOf};
 ghost use Rattle.reader_naming.specs.Totals.{Cleared};
-ghost use Rattle.reader_places.specs.Places.{recordsAndRoots, rootAndNaming, secondBody, Blank, Roomy};
+ghost use Rattle.reader_bodies.specs.Places.{Blank, Roomy};
 ghost use Rattle.reader.specs.Words.{word};
-
-// No refusal up to place 12.
-fn passed() -> Answer
-    ensures { λ r. ⌜ r ≡ record { refusal = 0; file = 0; at = 0; nodes = 0 } ⌝ }
-{
-    Answer {
-        refusal: 0,
-        file: 0,
-        at: 0,
-        nodes: 0,
-    }
-}
-
-// A refusal at record 0.
-fn refused(refusal: usize, file: usize) -> Answer
-    ensures { λ r. ⌜ r ≡ record { refusal = refusal; file = file; at = 0; nodes = 0 } ⌝ }
-{
-    Answer {
-        refusal,
-        file,
-        at: 0,
-        nodes: 0,
-    }
-}
-
-// The records and the roots of an obligation; `none` is the empty second file.
-fn obligation_body(
-    obligation: &[u8],
-    none: &[u8],
-    m: usize,
-    numbers: &[usize],
-    seen: &mut [usize],
-    slots: &mut [u32],
-    table: &mut [u16],
-) -> Answer
-    requires { ⌜ (m < length (now table)) × Room (now slots) m × Blank (now table) × Zeros (now slots) × Numbered (word (now obligation) (now none) m) (now numbers) (length (now numbers)) ⌝ }
-    ensures { λ r. ⌜ r ≡ recordsAndRoots (word (now (obligation .entry)) (now (none .entry)) m) m ⌝ }
-{
-    let r = faults::first_fault(obligation, none, m, 0, numbers, seen, slots, table, 1, m);
-    if r.refusal != 0 {
-        return r;
-    }
-    if !roots::roots_fit(obligation, none, m) {
-        return refused(11, 1);
-    }
-    passed()
-}
 
 // Places 1 to 11 of an obligation.
 pub fn obligation_reading(obligation: &[u8]) -> Answer
     ensures { λ r. ⌜ r ≡ obligationReading (now (obligation .entry)) ⌝ }
 {
     if !headers::length_fits(0, obligation) {
-        return refused(1, 1);
+        return bodies::refused(1, 1);
     }
     if !headers::header_fits(obligation) {
-        return refused(2, 1);
+        return bodies::refused(2, 1);
     }
     let m = words::word_of(obligation, 0, 1);
     let mut numbers = [0usize; 1024];
@@ -84,7 +31,7 @@ pub fn obligation_reading(obligation: &[u8]) -> Answer
     let mut seen = [0usize; 1024];
     let mut slots = [0u32; 6144];
     let mut table = [0u16; 1024];
-    obligation_body(
+    bodies::obligation_body(
         obligation,
         &obligation[0..0],
         m,
@@ -93,91 +40,6 @@ pub fn obligation_reading(obligation: &[u8]) -> Answer
         &mut slots,
         &mut table,
     )
-}
-
-// The root of a second file, and the naming of its rule nodes.
-fn root_and_naming(
-    obligation: &[u8],
-    second: &[u8],
-    m: usize,
-    mode: u8,
-    named: &mut [u8],
-    passed: &mut [u8],
-    last: usize,
-) -> Answer
-    requires { ⌜ (m ≤ last) × (last < length (now named)) × (last < length (now passed)) × Cleared (now named) × Cleared (now passed) ⌝ }
-    ensures { λ r. ⌜ r ≡ rootAndNaming mode (word (now (obligation .entry)) (now (second .entry)) m) (rootOf (now (second .entry))) m last ⌝ }
-{
-    let root = words::word_of(second, 0, 2);
-    if !kinds::is_rule(mode, words::word_at(obligation, second, m, root, 0)) {
-        return refused(11, 2);
-    }
-    reader_naming::first_unnamed(obligation, second, m, mode, named, passed, last)
-}
-
-// The first refusal of the records of a second file of kind `mode`, up to `last`. The tables are scratch.
-fn second_records(
-    obligation: &[u8],
-    second: &[u8],
-    m: usize,
-    mode: u8,
-    numbers: &[usize],
-    seen: &mut [usize],
-    slots: &mut [u32],
-    table: &mut [u16],
-    last: usize,
-) -> Answer
-    requires { ⌜ (m ≤ last) × (last < length (now table)) × Room (now slots) last × Zeros (now slots) × Blank (now table) × Numbered (word (now obligation) (now second) m) (now numbers) (length (now numbers)) ⌝ }
-    ensures { λ r. ⌜ r ≡ firstFault (recordFault mode (word (now (obligation .entry)) (now (second .entry)) m)) (fileOf mode) (last + 1 - (m + 1)) (m + 1) ⌝ }
-{
-    reader_names::slots::enter_all(obligation, second, m, slots, m);
-    faults::weigh_all(obligation, second, m, table, m);
-    faults::first_fault(
-        obligation,
-        second,
-        m,
-        mode,
-        numbers,
-        seen,
-        slots,
-        table,
-        m + 1,
-        last,
-    )
-}
-
-// The records of a second file of kind `mode`, its root and its naming. The tables are scratch.
-fn second_body(
-    obligation: &[u8],
-    second: &[u8],
-    m: usize,
-    mode: u8,
-    numbers: &[usize],
-    seen: &mut [usize],
-    slots: &mut [u32],
-    table: &mut [u16],
-    named: &mut [u8],
-    passed: &mut [u8],
-) -> Answer
-    requires { ⌜ (0 < mode) × Room (now slots) (m + countOf (now second)) × (m + countOf (now second) < length (now table)) × (m + countOf (now second) < length (now named)) × (m + countOf (now second) < length (now passed)) × Zeros (now slots) × Blank (now table) × Cleared (now named) × Cleared (now passed) × Numbered (word (now obligation) (now second) m) (now numbers) (length (now numbers)) ⌝ }
-    ensures { λ r. ⌜ r ≡ secondBody mode (word (now (obligation .entry)) (now (second .entry)) m) m (countOf (now (second .entry))) (rootOf (now (second .entry))) ⌝ }
-{
-    let last = m + words::word_of(second, 0, 1);
-    let r = second_records(
-        obligation,
-        second,
-        m,
-        mode,
-        numbers,
-        seen,
-        slots,
-        table,
-        last,
-    );
-    if r.refusal != 0 {
-        return r;
-    }
-    root_and_naming(obligation, second, m, mode, named, passed, last)
 }
 
 // Places 1 to 12 of a second file of kind `mode`, beside an obligation of m records. The tables are scratch.
@@ -197,12 +59,12 @@ fn second_reading(
     ensures { λ r. ⌜ r ≡ secondReading mode (now (obligation .entry)) (now (second .entry)) ⌝ }
 {
     if !headers::length_fits(mode, second) {
-        return refused(1, 2);
+        return bodies::refused(1, 2);
     }
     if !headers::counts_fit(obligation, second) {
-        return refused(2, 2);
+        return bodies::refused(2, 2);
     }
-    second_body(
+    bodies::second_body(
         obligation,
         second,
         m,

@@ -12,7 +12,7 @@ ghost use Rattle.reader.specs.Trees.{tree};
 ghost use Rattle.reader.specs.Weight.{weight};
 ghost use Rattle.reader_equality.specs.Least.{Numbered};
 ghost use Rattle.reader.specs.Answers.{firstFault};
-ghost use Rattle.reader.specs.Records.{nameFits, chainsFit, typingFits, wordsFault, contentFault, recordFault};
+ghost use Rattle.reader.specs.Records.{nameLengthFits, chainsFit, typingFits, wordsFault, contentFault, recordFault};
 ghost use Rattle.reader_names.specs.Taken.{Room, Names};
 ghost use Rattle.reader_weights.specs.Weights.{capped, Filled, fileOf};
 
@@ -20,10 +20,10 @@ ghost use Rattle.reader_weights.specs.Weights.{capped, Filled, fileOf};
 fn chains_fit(obligation: &[u8], second: &[u8], m: usize, i: usize) -> bool
     ensures { λ r. ⌜ r ≡ chainsFit (word (now (obligation .entry)) (now (second .entry)) m) i ⌝ }
 {
-    if !reader_names::name_fits(obligation, second, m, i) {
+    if !reader_names::name_length_fits(obligation, second, m, i) {
         return false;
     }
-    references::chains_of(obligation, second, m, i)
+    references::item_chains_fit(obligation, second, m, i)
 }
 
 // Is record i typed as its kind asks, where the file of kind `mode` is typed?
@@ -76,13 +76,13 @@ fn content_fault(
     i: usize,
     w: usize,
 ) -> usize
-    requires { ⌜ (w ≡ capped (weight (tree (word (now obligation) (now second) m) i))) × Numbered (word (now obligation) (now second) m) (now numbers) (length (now numbers)) × (0 < i) × Room (now slots) i × Names (word (now obligation) (now second) m) (now slots) i × (nameFits (word (now obligation) (now second) m) i ≡ true) ⌝ }
+    requires { ⌜ (w ≡ capped (weight (tree (word (now obligation) (now second) m) i))) × Numbered (word (now obligation) (now second) m) (now numbers) (length (now numbers)) × (0 < i) × Room (now slots) i × Names (word (now obligation) (now second) m) (now slots) i × (nameLengthFits (word (now obligation) (now second) m) i ≡ true) ⌝ }
     ensures { λ r. ⌜ (r ≡ contentFault mode (word (now (obligation .entry)) (now (second .entry)) m) i) × (r ≡ 0 → Names (word (now (obligation .entry)) (now (second .entry)) m) (now (slots .exit)) (i + 1)) ⌝ }
 {
     if !weights::weight_fits(obligation, second, m, mode, i, w) {
         return 7;
     }
-    if !reader_names::name_stands(obligation, second, m, i) {
+    if !reader_names::name_spelled(obligation, second, m, i) {
         return 8;
     }
     if !reader_names::name_is_free(obligation, second, m, slots, i) {

@@ -1,34 +1,58 @@
 -- Parts of the definitions of references and chain lengths, and the ways out of the code for them.
-use Prim.Native.Nat.{ℕ, zero, suc, _+_, _*_, _<_, _≤_}
+use Prim.Native.Nat.{ℕ, zero, _<_, _≤_}
 use mathlib.Core.Path.{_≡_, refl, sym, ap, _∙_}
-use mathlib.Core.List.{List, [], _∷_}
+use mathlib.Core.List.{List, map}
 use mathlib.Core.Bool.{Bool, true, false, not}
 use lib.Dec.{ltb, eqb, leb}
-use lib.ListN.{length, getD}
+use lib.ListN.{length, getD, List·getD-map, List·getD-eq-default}
 use native.Mathlib.Omega.{arith}
 use borrow.Author.Tests.{eq-eqb, ne-eqb, le-ltb, lt-ltb, not-true, not-false}
 use Rattle.reader.specs.Words.{Reader}
-use Rattle.reader.specs.Tests.{both, both-stop, both-go, between, every, ifEq, ifLt, eq-yes, eq-no, lt-yes, lt-no}
+use Rattle.reader.specs.Tests.{both, between, every, ifEq}
+use Rattle.reader.specs.TestLaws.{eq-yes, eq-no, lt-yes, lt-no}
 use Rattle.reader.specs.Trees.{lower}
-use Rattle.reader.specs.At.{classAt, roleAt}
+use Rattle.reader.specs.Kinds.{classAt, roleAt}
 use Rattle.reader.specs.Chains.{linked, items}
-use Rattle.reader.specs.Laws.{items-zero, items-step}
+use Rattle.reader.specs.TreeLaws.{items-zero, items-step}
 use Rattle.reader.specs.ChainLaws.{linked-length, linked-none}
-use Rattle.reader.specs.WordLaws.{past-end}
-use Rattle.reader.specs.Records.{references, mayBeZero, wantedClass, itemClass, hasClass, itemsHaveClass, refers, refersAt, typesFit, argumentsFit, chainsOf}
+use Rattle.reader.specs.Records.{Reference, anyRecord, references, mayBeZero, wantedClass, itemClass, hasClass, itemsHaveClass, refers, refersAt, typesFit, argumentsFit, itemChainsFit}
 
--- past the table
-pub zero-past : (r : ℕ) → 18 ≤ r → false ≡ mayBeZero r
-unfolding mayBeZero
-zero-past r h = rw (← past-end references (3 * r) (omega arith)) refl
+-- The columns of the table of references, at its entries and past its end.
+abbrev bit : Bool → ℕ
+bit b = elim b [ true ↦ 1 | false ↦ 0 ]
 
-pub wanted-past : (r : ℕ) → 18 ≤ r → 0 ≡ wantedClass r
-unfolding wantedClass
-wanted-past r h = past-end references (3 * r + 1) (omega arith)
+bit-one : (b : Bool) → eqb (bit b) 1 ≡ b
+bit-one true = refl
+bit-one false = refl
 
-pub item-past : (r : ℕ) → 18 ≤ r → 0 ≡ itemClass r
-unfolding itemClass
-item-past r h = past-end references (3 * r + 2) (omega arith)
+module _ (r : ℕ) where
+  pub zero-in : eqb (getD (map (λ (x : Reference). bit (x .zero)) references) r 0) 1 ≡ mayBeZero r
+  unfolding mayBeZero
+  zero-in = ap (λ (n : ℕ). eqb n 1) (List·getD-map (λ (x : Reference). bit (x .zero)) references r anyRecord) ∙ bit-one (mayBeZero r)
+
+  pub wanted-in : getD (map (λ (x : Reference). x .class) references) r 0 ≡ wantedClass r
+  unfolding wantedClass
+  wanted-in = List·getD-map (λ (x : Reference). x .class) references r anyRecord
+
+  pub items-in : getD (map (λ (x : Reference). x .items) references) r 0 ≡ itemClass r
+  unfolding itemClass
+  items-in = List·getD-map (λ (x : Reference). x .items) references r anyRecord
+
+  module _ (h : 18 ≤ r) where
+    past : getD references r anyRecord ≡ anyRecord
+    past = List·getD-eq-default references anyRecord h
+
+    pub zero-past : false ≡ mayBeZero r
+    unfolding mayBeZero
+    zero-past = ap (λ (x : Reference). x .zero) (sym past)
+
+    pub wanted-past : 0 ≡ wantedClass r
+    unfolding wantedClass
+    wanted-past = ap (λ (x : Reference). x .class) (sym past)
+
+    pub item-past : 0 ≡ itemClass r
+    unfolding itemClass
+    item-past = ap (λ (x : Reference). x .items) (sym past)
 
 -- the class of a record that a function read
 pub class-is : (rd : Reader) (c j k : ℕ) → (c ≡ 0 → ⊥) → k ≡ classAt rd j → eqb k c ≡ hasClass rd c j
@@ -97,19 +121,19 @@ types-some rd c h t e = lt-no (length (linked rd c)) 1 false _ t (omega (arith, 
 
 -- The ways out of `chains_of`.
 module _ (rd : Reader) (i k : ℕ) (ek : k ≡ rd i 0) where
-  pub chains-function : k ≡ 8 → (c : ℕ) → c ≡ rd i 1 → (t : Bool) → t ≡ typesFit rd c → t ≡ chainsOf rd i
-  unfolding chainsOf ifEq
-  chains-function h c ec t e = simp (chainsOf, ifEq, ← ek, eq-eqb k 8 h, ← ec) e
+  pub chains-function : k ≡ 8 → (c : ℕ) → c ≡ rd i 1 → (t : Bool) → t ≡ typesFit rd c → t ≡ itemChainsFit rd i
+  unfolding itemChainsFit ifEq
+  chains-function h c ec t e = simp (itemChainsFit, ifEq, ← ek, eq-eqb k 8 h, ← ec) e
 
-  pub chains-other : (k ≡ 8 → ⊥) → (k ≡ 13 → ⊥) → true ≡ chainsOf rd i
-  unfolding chainsOf ifEq
-  chains-other h g = simp (chainsOf, ifEq, ← ek, ne-eqb k 8 h, ne-eqb k 13 g)
+  pub chains-other : (k ≡ 8 → ⊥) → (k ≡ 13 → ⊥) → true ≡ itemChainsFit rd i
+  unfolding itemChainsFit ifEq
+  chains-other h g = simp (itemChainsFit, ifEq, ← ek, ne-eqb k 8 h, ne-eqb k 13 g)
 
   module _ (h : k ≡ 8 → ⊥) (g : k ≡ 13) (c : ℕ) (ec : c ≡ rd i 2) (t : Bool) (et : t ≡ typesFit rd c) where
-    pub chains-types : not t ≡ true → false ≡ chainsOf rd i
-    unfolding chainsOf ifEq both
-    chains-types n = simp (chainsOf, ifEq, both, ← ek, ne-eqb k 8 h, eq-eqb k 13 g, ← ec, ← et, not-true t n)
+    pub chains-types : not t ≡ true → false ≡ itemChainsFit rd i
+    unfolding itemChainsFit ifEq both
+    chains-types n = simp (itemChainsFit, ifEq, both, ← ek, ne-eqb k 8 h, eq-eqb k 13 g, ← ec, ← et, not-true t n)
 
-    pub chains-both : not t ≡ false → (d : ℕ) → d ≡ rd i 3 → (u : Bool) → u ≡ argumentsFit rd d → u ≡ chainsOf rd i
-    unfolding chainsOf ifEq both
-    chains-both n d ed u e = simp (chainsOf, ifEq, both, ← ek, ne-eqb k 8 h, eq-eqb k 13 g, ← ec, ← et, not-false t n, ← ed) e
+    pub chains-both : not t ≡ false → (d : ℕ) → d ≡ rd i 3 → (u : Bool) → u ≡ argumentsFit rd d → u ≡ itemChainsFit rd i
+    unfolding itemChainsFit ifEq both
+    chains-both n d ed u e = simp (itemChainsFit, ifEq, both, ← ek, ne-eqb k 8 h, eq-eqb k 13 g, ← ec, ← et, not-false t n, ← ed) e

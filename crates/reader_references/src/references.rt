@@ -7,94 +7,47 @@ ghost use mathlib.Core.Path.{_≡_};
 ghost use Rattle.reader.specs.Words.{word};
 ghost use Rattle.reader.specs.Tests.{every};
 ghost use Rattle.reader.specs.Chains.{items};
-ghost use Rattle.reader.specs.Records.{mayBeZero, wantedClass, itemClass, hasClass, itemsHaveClass, refers, refersAt, referencesFit, typesFit, argumentsFit, chainsOf};
+ghost use Rattle.reader.specs.Records.{mayBeZero, wantedClass, itemClass, hasClass, itemsHaveClass, refers, refersAt, referencesFit, typesFit, argumentsFit, itemChainsFit};
 ghost use Rattle.reader_references.specs.References.{pointsWell};
 
-const REFERENCES: [u8; 54] = [
-    0,
-    0,
-    0,
-    0,
-    0,
-    0,
-    0,
-    0,
-    0,
-    0,
-    0,
-    0,
-    0,
-    0,
-    0,
-    0,
-    0,
-    0,
-    0,
-    2,
-    0,
-    1,
-    2,
-    0,
-    1,
-    1,
-    0,
-    0,
-    1,
-    3,
-    0,
-    0,
-    0,
-    1,
-    1,
-    0,
-    0,
-    3,
-    0,
-    0,
-    4,
-    0,
-    0,
-    5,
-    0,
-    0,
-    6,
-    0,
-    0,
-    1,
-    3,
-    1,
-    1,
-    4,
-];
+// The columns of the table of references, by role.
+const ZEROS: [u8; 18] = [0, 0, 0, 0, 0, 0, 0, 1, 1, 0, 0, 1, 0, 0, 0, 0, 0, 1];
+
+const CLASSES: [u8; 18] = [0, 0, 0, 0, 0, 0, 2, 2, 1, 1, 0, 1, 3, 4, 5, 6, 1, 1];
+
+const ITEMS: [u8; 18] = [0, 0, 0, 0, 0, 0, 0, 0, 0, 3, 0, 0, 0, 0, 0, 0, 3, 4];
 
 // May a reference in this role be 0?
 fn may_be_zero(role: u8) -> bool
     ensures { λ r. ⌜ r ≡ mayBeZero role ⌝ }
 {
-    if 18 <= role {
+    let at = role as usize;
+    if 18 <= at {
         return false;
     }
-    REFERENCES[3 * (role as usize)] == 1
+    ZEROS[at] == 1
 }
 
 // The class that a reference in this role asks for, 0 for any.
 fn wanted_class(role: u8) -> u8
     ensures { λ r. ⌜ r ≡ wantedClass role ⌝ }
 {
-    if 18 <= role {
+    let at = role as usize;
+    if 18 <= at {
         return 0;
     }
-    REFERENCES[3 * (role as usize) + 1]
+    CLASSES[at]
 }
 
 // The class that it asks of the items of a chain, 0 for no chain.
 fn item_class(role: u8) -> u8
     ensures { λ r. ⌜ r ≡ itemClass role ⌝ }
 {
-    if 18 <= role {
+    let at = role as usize;
+    if 18 <= at {
         return 0;
     }
-    REFERENCES[3 * (role as usize) + 2]
+    ITEMS[at]
 }
 
 // Has record j class c, 0 for any?
@@ -199,8 +152,8 @@ fn arguments_fit(obligation: &[u8], second: &[u8], m: usize, c: usize) -> bool
 }
 
 // Have the chains of types and of arguments of a function or an application their lengths?
-pub fn chains_of(obligation: &[u8], second: &[u8], m: usize, i: usize) -> bool
-    ensures { λ r. ⌜ r ≡ chainsOf (word (now (obligation .entry)) (now (second .entry)) m) i ⌝ }
+pub fn item_chains_fit(obligation: &[u8], second: &[u8], m: usize, i: usize) -> bool
+    ensures { λ r. ⌜ r ≡ itemChainsFit (word (now (obligation .entry)) (now (second .entry)) m) i ⌝ }
 {
     let k = words::word_at(obligation, second, m, i, 0);
     if k == 8 {

@@ -5,8 +5,8 @@ use mathlib.Core.Bool.{Bool, true, false}
 use native.Mathlib.Omega.{arith}
 use borrow.Author.Tests.{ne-eqb}
 use Rattle.reader.specs.Words.{Reader}
-use Rattle.reader.specs.Tests.{both, ifLt}
-use Rattle.reader.specs.Kinds.{role, ruleRole}
+use Rattle.reader.specs.Tests.{both, ifLt, ifEq}
+use Rattle.reader.specs.Kinds.{role}
 use Rattle.reader.specs.Trees.{Tree, leaf, node, lower, tree, kindOf, sameHead, same, setᵗ, pairᵗ}
 use Rattle.reader_chains.specs.Shapes.{child-lower, kind-zero, kind-tree, same-nodes, set-tree, pair-tree}
 
@@ -63,7 +63,7 @@ module _ (rd : Reader) (s x k : ℕ) (e : k ≡ kindOf (tree rd s)) where
   set-pair-other y h = sym (other-tree (tree rd s) k 4 0 (pairᵗ (tree rd x) (tree rd y)) leaf leaf e h)
 
   set-lower : k ≡ 4 → tree rd s ≡ setᵗ (tree rd (lower rd s 1))
-  unfolding role ruleRole ifLt
+  unfolding role ifLt ifEq
   set-lower h = let p = kind-is rd s k 4 e h (omega arith) in rw (set-tree rd s (p .0) (p .1), child-lower rd s 4 (p .1) 1 (omega arith))
 
   module _ (h : k ≡ 4) (z : ℕ) (ez : z ≡ lower rd s 1) (r : Bool) where
@@ -82,7 +82,7 @@ module _ (rd : Reader) (p x y k : ℕ) (e : k ≡ kindOf (tree rd p)) where
   pair-other h = sym (other-tree (tree rd p) k 5 0 (tree rd x) (tree rd y) leaf e h)
 
   pub pair-more : k ≡ 5 → (r : Bool) → r ≡ both (same (tree rd (lower rd p 1)) (tree rd x)) (same (tree rd (lower rd p 2)) (tree rd y)) → r ≡ isPairOf rd p x y
-  unfolding isPairOf role ruleRole ifLt
+  unfolding isPairOf role ifLt ifEq
   pair-more h r q =
       let f = kind-is rd p k 5 e h (omega arith) in
       rw (pair-tree rd p (f .0) (f .1), child-lower rd p 5 (f .1) 1 (omega arith), child-lower rd p 5 (f .1) 2 (omega arith), same-pair) q

@@ -7,11 +7,11 @@ use native.Mathlib.Omega.{arith}
 use borrow.Author.Tests.{eq-eqb, ne-eqb, eqb-true}
 use Rattle.reader.specs.Words.{Reader}
 use Rattle.reader.specs.Tests.{both, ifEq, ifLt}
-use Rattle.reader.specs.Kinds.{role, ruleRole}
+use Rattle.reader.specs.Kinds.{role}
 use Rattle.reader.specs.Trees.{Tree, lower, child, tree, kindOf, firstOf, secondOf, same}
 use Rattle.reader.specs.Variables.{bears, typesBelow}
 use Rattle.reader.specs.Typing.{typeOf, constantTyped, pairTyped, productTyped, powersetTyped, forAllTyped, equalTyped, memberTyped}
-use Rattle.reader.specs.Laws.{tree-zero, tree-step}
+use Rattle.reader.specs.TreeLaws.{tree-zero, tree-step}
 use Rattle.reader_chains.specs.Shapes.{lower-zero, child-zero, child-lower, first-tree, second-tree, third-tree}
 use Rattle.reader_types.specs.SetsAndPairs.{isSetOf, isPairOf, isSetOfPair}
 
@@ -63,7 +63,7 @@ part-tree rd i k w h e = rw (child-lower rd i k e w h)
 
 -- the tree of a term's type is the type of its tree
 pub type-tree : (rd : Reader) (i : ℕ) → tree rd (typeAt rd i) ≡ typeOf (tree rd i)
-unfolding typeAt typeOf role ruleRole ifLt
+unfolding typeAt typeOf role ifLt ifEq
 type-tree rd zero = rw (type-zero rd, tree-zero rd)
 type-tree rd (suc i) =
     let k = rd (suc i) 0 in

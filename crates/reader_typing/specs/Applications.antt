@@ -12,10 +12,10 @@ use Rattle.reader.specs.Trees.{Tree, lower, tree, same}
 use Rattle.reader.specs.Chains.{itemTrees}
 use Rattle.reader.specs.Variables.{typesBelow, instance}
 use Rattle.reader.specs.Typing.{typeOf, sameAll, signature, functionTyped, applicationTyped}
-use Rattle.reader.specs.Laws.{lower-below}
+use Rattle.reader.specs.TreeLaws.{lower-below}
 use Rattle.reader_types.specs.Types.{typeAt, type-tree}
 use Rattle.reader_chains.specs.Chains.{hasLinks, trees-zero, trees-step, trees-drop, trees-first}
-use Rattle.reader_typing.specs.Instances.{fits}
+use Rattle.reader_instances.specs.Instances.{fits}
 
 -- the types of the items of chain a are those of chain s with the items of chain c put in, one by one
 unfoldable pub argumentsFit : Reader → ℕ → ℕ → ℕ → Bool

@@ -1,10 +1,10 @@
 // Typing of functions and applications.
-use crate::instances;
-use crate::signatures;
 use reader::trees;
 use reader::words;
 use reader_chains::chains;
 use reader_equality::tables;
+use reader_instances::instances;
+use reader_instances::signatures;
 use reader_types::types;
 ghost use mathlib.Core.Path.{_≡_};
 ghost use Prim.Native.Nat.{_≤_};
@@ -15,8 +15,8 @@ ghost use Rattle.reader.specs.Chains.{itemTrees};
 ghost use Rattle.reader.specs.Variables.{typesBelow};
 ghost use Rattle.reader.specs.Typing.{functionTyped, applicationTyped};
 ghost use Rattle.reader_equality.specs.Least.{Numbered};
-ghost use Rattle.reader_typing.specs.Instances.{Remembered};
-ghost use Rattle.reader_typing.specs.Signatures.{Known};
+ghost use Rattle.reader_instances.specs.Instances.{Remembered};
+ghost use Rattle.reader_instances.specs.Signatures.{Known};
 ghost use Rattle.reader_typing.specs.Applications.{argumentsFit, signatureFits};
 
 // The first n entries of a table, or all where it has fewer: how many they are.

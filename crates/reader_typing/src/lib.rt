@@ -1,5 +1,3 @@
 // Typing of functions, of applications and of any record: refusal 10.
 pub mod applications;
-pub mod instances;
 pub mod records;
-pub mod signatures;

@@ -7,10 +7,10 @@ use native.Mathlib.Omega.{arith}
 use borrow.Author.Tests.{eq-eqb, ne-eqb, lt-ltb, le-ltb, eqb-true, eqb-false, ltb-true, ltb-false}
 use Rattle.reader.specs.Words.{Reader}
 use Rattle.reader.specs.Tests.{both, ifEq, ifLt, ifTrue}
-use Rattle.reader.specs.Kinds.{role, ruleRole, isNumber, isSymbol}
+use Rattle.reader.specs.Kinds.{role, isNumber, isSymbol}
 use Rattle.reader.specs.Trees.{child, atom, tree, same}
-use Rattle.reader.specs.Variables.{binders, isIndex, bears, isBound, indicesBelow, isTypeBelow, typesBelow}
-use Rattle.reader.specs.Laws.{tree-zero, tree-step}
+use Rattle.reader.specs.Variables.{binders, isIndex, bears, indexBelow, indicesBelow, typeVariableBelow, typesBelow}
+use Rattle.reader.specs.TreeLaws.{tree-zero, tree-step}
 use Rattle.reader_chains.specs.Shapes.{atom-first}
 use Rattle.reader_chains.specs.Parts.{partAt, part-child}
 
@@ -18,7 +18,7 @@ use Rattle.reader_chains.specs.Parts.{partAt, part-child}
 
 -- record i, of kind k, is no bound variable with an index from n on
 unfoldable pub boundAt : Reader → ℕ → ℕ → ℕ → Bool
-boundAt rd k i n = isBound k (rd i 1) n
+boundAt rd k i n = indexBelow k (rd i 1) n
 
 -- the parts of record i, of kind k, have indices below d and the c binders crossed
 unfoldable pub belowParts : Reader → ℕ → ℕ → ℕ → ℕ → Bool
@@ -38,25 +38,25 @@ deeper-no k c h = simp (binders, ne-eqb k 19 h) (omega arith)
 -- The ways out of `is_bound`.
 module _ (rd : Reader) (k i d c : ℕ) where
   pub bound-other : (k ≡ 9 → ⊥) → true ≡ boundAt rd k i (d + c)
-  unfolding boundAt isBound
-  bound-other h = simp (isBound, ne-eqb k 9 h)
+  unfolding boundAt indexBelow
+  bound-other h = simp (indexBelow, ne-eqb k 9 h)
 
   module _ (h : k ≡ 9) (a : ℕ) (ea : a ≡ rd i 1) where
     pub bound-crossed : a < c → true ≡ boundAt rd k i (d + c)
-    unfolding boundAt isBound
-    bound-crossed q = simp (isBound, eq-eqb k 9 h, ← ea, lt-ltb a (d + c) (omega arith))
+    unfolding boundAt indexBelow
+    bound-crossed q = simp (indexBelow, eq-eqb k 9 h, ← ea, lt-ltb a (d + c) (omega arith))
 
     pub bound-past : c ≤ a → ltb (a - c) d ≡ boundAt rd k i (d + c)
-    unfolding boundAt isBound
-    bound-past q = simp (isBound, eq-eqb k 9 h, ← ea) (go (ltb (a - c) d) refl)
+    unfolding boundAt indexBelow
+    bound-past q = simp (indexBelow, eq-eqb k 9 h, ← ea) (go (ltb (a - c) d) refl)
       where
         go : (b : Bool) → ltb (a - c) d ≡ b → b ≡ ltb a (d + c)
         go true e = let z : a - c < d = ltb-true (a - c) d e in sym (lt-ltb a (d + c) (omega arith))
         go false e = let z : d ≤ a - c = ltb-false (a - c) d e in sym (le-ltb a (d + c) (omega arith))
 
 -- the index of a bound variable is its word 1
-bound-atom : (rd : Reader) (i n : ℕ) → isBound (rd i 0) (atom rd i) n ≡ boundAt rd (rd i 0) i n
-unfolding boundAt isBound role ruleRole ifLt ifEq isSymbol isNumber
+bound-atom : (rd : Reader) (i n : ℕ) → indexBelow (rd i 0) (atom rd i) n ≡ boundAt rd (rd i 0) i n
+unfolding boundAt indexBelow role ifLt ifEq isSymbol isNumber
 bound-atom rd i n = go (eqb (rd i 0) 9) refl
   where
     go : (b : Bool) → eqb (rd i 0) 9 ≡ b → _≡_ {A = Bool} (elim b [ true ↦ ltb (atom rd i) n | false ↦ true ]) (elim b [ true ↦ ltb (rd i 1) n | false ↦ true ])
@@ -65,7 +65,7 @@ bound-atom rd i n = go (eqb (rd i 0) 9) refl
 
 -- indices at a record that is not 0
 below-step : (rd : Reader) (i n : ℕ) → (i ≡ 0 → ⊥) →
-    indicesBelow n (tree rd i) ≡ both (isBound (rd i 0) (atom rd i) n) (both (indicesBelow n (tree rd (child rd i 1)))
+    indicesBelow n (tree rd i) ≡ both (indexBelow (rd i 0) (atom rd i) n) (both (indicesBelow n (tree rd (child rd i 1)))
     (both (indicesBelow (n + binders (rd i 0)) (tree rd (child rd i 2))) (indicesBelow n (tree rd (child rd i 3)))))
 unfolding indicesBelow both
 below-step rd i n pos = rw (tree-step rd i (omega arith))
@@ -95,7 +95,7 @@ below-all rd i d r e = let z : d + 0 ≡ d = omega arith in rw z at e
 
 -- record i, of kind k, is no type variable with a number from p on
 unfoldable pub typeBelowAt : Reader → ℕ → ℕ → ℕ → Bool
-typeBelowAt rd k i p = isTypeBelow k (rd i 1) p
+typeBelowAt rd k i p = typeVariableBelow k (rd i 1) p
 
 -- the parts of record i, of kind k, have type variables below p
 unfoldable pub typesBelowParts : Reader → ℕ → ℕ → ℕ → Bool
@@ -106,16 +106,16 @@ typesBelowParts rd k i p =
 -- The ways out of `is_type_below`.
 module _ (rd : Reader) (k i p : ℕ) where
   pub type-other : (k ≡ 6 → ⊥) → true ≡ typeBelowAt rd k i p
-  unfolding typeBelowAt isTypeBelow
-  type-other h = simp (isTypeBelow, ne-eqb k 6 h)
+  unfolding typeBelowAt typeVariableBelow
+  type-other h = simp (typeVariableBelow, ne-eqb k 6 h)
 
   pub type-variable : k ≡ 6 → (a : ℕ) → a ≡ rd i 1 → ltb a p ≡ typeBelowAt rd k i p
-  unfolding typeBelowAt isTypeBelow
-  type-variable h a e = simp (isTypeBelow, eq-eqb k 6 h, ← e)
+  unfolding typeBelowAt typeVariableBelow
+  type-variable h a e = simp (typeVariableBelow, eq-eqb k 6 h, ← e)
 
 -- the number of a type variable is its word 1
-type-atom : (rd : Reader) (i p : ℕ) → isTypeBelow (rd i 0) (atom rd i) p ≡ typeBelowAt rd (rd i 0) i p
-unfolding typeBelowAt isTypeBelow role ruleRole ifLt ifEq isSymbol isNumber
+type-atom : (rd : Reader) (i p : ℕ) → typeVariableBelow (rd i 0) (atom rd i) p ≡ typeBelowAt rd (rd i 0) i p
+unfolding typeBelowAt typeVariableBelow role ifLt ifEq isSymbol isNumber
 type-atom rd i p = go (eqb (rd i 0) 6) refl
   where
     go : (b : Bool) → eqb (rd i 0) 6 ≡ b → _≡_ {A = Bool} (elim b [ true ↦ ltb (atom rd i) p | false ↦ true ]) (elim b [ true ↦ ltb (rd i 1) p | false ↦ true ])
@@ -124,7 +124,7 @@ type-atom rd i p = go (eqb (rd i 0) 6) refl
 
 -- type variables at a record that is not 0
 types-step : (rd : Reader) (i p : ℕ) → (i ≡ 0 → ⊥) →
-    typesBelow p (tree rd i) ≡ both (isTypeBelow (rd i 0) (atom rd i) p)
+    typesBelow p (tree rd i) ≡ both (typeVariableBelow (rd i 0) (atom rd i) p)
     (both (typesBelow p (tree rd (child rd i 1))) (both (typesBelow p (tree rd (child rd i 2))) (typesBelow p (tree rd (child rd i 3)))))
 unfolding typesBelow both
 types-step rd i p pos = rw (tree-step rd i (omega arith))
@@ -171,7 +171,7 @@ module _ (rd : Reader) (k i d c : ℕ) where
         go false e = let z : a - c ≡ d → ⊥ = eqb-false (a - c) d e in sym (ne-eqb a (d + c) (λ y. z (omega arith)))
 
 index-atom : (rd : Reader) (i n : ℕ) → isIndex (rd i 0) (atom rd i) n ≡ indexAt rd (rd i 0) i n
-unfolding indexAt isIndex role ruleRole ifLt ifEq isSymbol isNumber
+unfolding indexAt isIndex role ifLt ifEq isSymbol isNumber
 index-atom rd i n = go (eqb (rd i 0) 9) refl
   where
     go : (b : Bool) → eqb (rd i 0) 9 ≡ b → _≡_ {A = Bool} (elim b [ true ↦ eqb (atom rd i) n | false ↦ false ]) (elim b [ true ↦ eqb (rd i 1) n | false ↦ false ])

@@ -19,7 +19,7 @@ fn deeper(k: usize, c: usize) -> usize
 }
 
 // Is record i, of kind k, no bound variable with an index from d + c on?
-fn is_bound(
+fn index_below(
     obligation: &[u8],
     second: &[u8],
     m: usize,
@@ -74,7 +74,7 @@ fn below_at(obligation: &[u8], second: &[u8], m: usize, i: usize, d: usize, c: u
         return true;
     }
     let k = words::word_at(obligation, second, m, i, 0);
-    if !is_bound(obligation, second, m, k, i, d, c) {
+    if !index_below(obligation, second, m, k, i, d, c) {
         return false;
     }
     below_parts(obligation, second, m, k, i, d, c)
@@ -88,7 +88,7 @@ pub fn indices_below(obligation: &[u8], second: &[u8], m: usize, i: usize, d: us
 }
 
 // Is record i, of kind k, no type variable with a number from p on?
-pub fn is_type_below(
+pub fn type_variable_below(
     obligation: &[u8],
     second: &[u8],
     m: usize,
@@ -136,7 +136,7 @@ pub fn types_below(obligation: &[u8], second: &[u8], m: usize, i: usize, p: usiz
         return true;
     }
     let k = words::word_at(obligation, second, m, i, 0);
-    if !is_type_below(obligation, second, m, k, i, p) {
+    if !type_variable_below(obligation, second, m, k, i, p) {
         return false;
     }
     types_below_parts(obligation, second, m, k, i, p)

@@ -1,6 +1,6 @@
 -- The table of weights, and the ways out of the code that fills it.
 use Prim.Native.Nat.{ℕ, zero, suc, _+_, _-_, _<_, _≤_, min}
-use mathlib.Core.Path.{_≡_, refl, sym, ap, _∙_}
+use mathlib.Core.Path.{_≡_, refl, sym, _∙_}
 use mathlib.Core.List.{List}
 use mathlib.Core.Bool.{Bool, true, false, not}
 use mathlib.Core.Logic.{⊎-elim}
@@ -9,16 +9,15 @@ use lib.ListN.{length, getD, set}
 use lib.Seq.{getD-set-same, getD-set-other}
 use native.Mathlib.Omega.{arith}
 use native.Mathlib.Nat.{eq-or-lt-of-le}
-use borrow.Author.Tests.{eq-eqb, ne-eqb, le-leb, lt-leb, not-true, not-false, leb-true, leb-false}
+use borrow.Author.Tests.{ne-eqb, le-leb, lt-leb, not-true, not-false, leb-true, leb-false}
 use Rattle.reader.specs.Words.{Reader}
 use Rattle.reader.specs.Tests.{ifEq, ifTrue}
-use Rattle.reader.specs.Kinds.{class}
-use Rattle.reader.specs.Trees.{Tree, leaf, node, child, atom, tree}
+use Rattle.reader.specs.Trees.{child, tree}
 use Rattle.reader.specs.Weight.{isWeighed, ownWeight, weight}
 use Rattle.reader.specs.Records.{mostWeight, weightFits}
 use Rattle.reader.specs.Answers.{answer, firstFault}
 use Rattle.reader.specs.AnswerLaws.{scan-stop}
-use Rattle.reader.specs.Laws.{child-below, tree-zero, tree-step}
+use Rattle.reader.specs.TreeLaws.{child-below, tree-zero, tree-step}
 
 -- a weight as the table holds it
 unfoldable pub capped : ℕ → ℕ

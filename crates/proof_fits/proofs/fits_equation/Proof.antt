@@ -1,5 +1,5 @@
 use borrow.Author.Needs.{needs}
-use Rattle.reader.specs.Tests.{boths}
+use Rattle.reader.specs.TestLaws.{boths}
 use Rattle.proof_fits.specs.Fits.{equation-fits}
 use Rattle.proof_fits.proofs.fits_equation.Statement.{statement}
 use Rattle.proof_fits.proofs.fits_equation.Tie as tie

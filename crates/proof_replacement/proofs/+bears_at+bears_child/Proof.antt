@@ -1,6 +1,6 @@
 use borrow.Author.Needs.{needs}
 use native.Mathlib.Omega.{arith}
-use Rattle.reader.specs.Tests.{both-stop, both-go, boths}
+use Rattle.reader.specs.TestLaws.{both-stop, both-go, boths}
 use Rattle.proof_replacement.specs.Fits.{open-positive, open-parts, fits-falls}
 use Rattle.proof_replacement.specs.Places.{places-none, place-index, places-more, bears-deeper, bears-child}
 use Prim.Native.Nat.{ℕ, _+_, _*_, _<_}

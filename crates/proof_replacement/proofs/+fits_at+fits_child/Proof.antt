@@ -1,6 +1,6 @@
 use borrow.Author.Needs.{needs}
 use native.Mathlib.Omega.{arith}
-use Rattle.reader.specs.Tests.{both-stop, both-go, boths}
+use Rattle.reader.specs.TestLaws.{both-stop, both-go, boths}
 use Rattle.proof_replacement.specs.Fits.{open-positive, open-parts, fits-closed, fits-index, fits-missing, fits-more, fits-deeper, fits-child, fits-falls}
 use Prim.Native.Nat.{ℕ, _+_, _*_, _<_}
 use borrow.Fn.Kinds.{In}

@@ -1,6 +1,6 @@
 use borrow.Author.Needs.{needs}
 use native.Mathlib.Omega.{arith}
-use Rattle.reader.specs.Tests.{boths}
+use Rattle.reader.specs.TestLaws.{boths}
 use Rattle.derivation_members.specs.Needs.{form-normal}
 use Rattle.derivation_fits.specs.Fits.{equality-parts, rest-below}
 use Rattle.derivation_fits.proofs.fits.equality_fits.Statement.{statement}

@@ -1,6 +1,6 @@
 use borrow.Author.Needs.{needs}
 use native.Mathlib.Omega.{arith}
-use Rattle.reader.specs.Tests.{boths}
+use Rattle.reader.specs.TestLaws.{boths}
 use Rattle.derivation_forms.specs.Formed.{chain-in}
 use Rattle.derivation_fits.specs.Fits.{fits-low, fits-high, fits-equality, fits-other}
 use Rattle.derivation_fits.proofs.fits.fits.Statement.{statement}

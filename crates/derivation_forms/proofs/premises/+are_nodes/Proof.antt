@@ -1,6 +1,6 @@
 use borrow.Author.Needs.{needs}
 use native.Mathlib.Omega.{arith}
-use Rattle.reader.specs.Tests.{boths}
+use Rattle.reader.specs.TestLaws.{boths}
 use Rattle.reader_typing.specs.Applications.{next-falls}
 use Rattle.derivation_forms.specs.Premises.{nodes-end, nodes-over, nodes-more}
 use Prim.Native.Nat.{ℕ, _<_}

@@ -1,6 +1,6 @@
 use borrow.Author.Needs.{needs}
 use native.Mathlib.Omega.{arith}
-use Rattle.reader.specs.Tests.{boths}
+use Rattle.reader.specs.TestLaws.{boths}
 use Rattle.derivation_members.specs.Members.{every-member, frame-in, start-in, chain-below}
 use Rattle.derivation_members.proofs.members.members_agree.Statement.{statement}
 use Rattle.derivation_members.proofs.members.members_agree.Tie as tie

@@ -1,6 +1,6 @@
 use borrow.Author.Needs.{needs}
 use native.Mathlib.Omega.{arith}
-use Rattle.reader.specs.Tests.{demands}
+use Rattle.reader.specs.TestLaws.{demands}
 use Rattle.derivation_nodes.specs.Nodes.{form-at}
 use Rattle.derivation_nodes.proofs.nodes.form_fault.Statement.{statement}
 use Rattle.derivation_nodes.proofs.nodes.form_fault.Tie as tie

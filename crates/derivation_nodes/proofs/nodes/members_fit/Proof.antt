@@ -1,6 +1,6 @@
 use borrow.Author.Needs.{needs}
 use native.Mathlib.Omega.{arith}
-use Rattle.reader.specs.Tests.{boths}
+use Rattle.reader.specs.TestLaws.{boths}
 use Rattle.derivation_nodes.specs.Nodes.{members-fit}
 use Rattle.derivation_nodes.proofs.nodes.members_fit.Statement.{statement}
 use Rattle.derivation_nodes.proofs.nodes.members_fit.Tie as tie

@@ -1,6 +1,6 @@
 use borrow.Author.Needs.{needs}
 use native.Mathlib.Omega.{arith}
-use Rattle.reader.specs.Tests.{ors}
+use Rattle.reader.specs.TestLaws.{ors}
 use Rattle.derivation_nodes.specs.Nodes.{node-is}
 use Rattle.derivation_nodes.proofs.nodes.node_fault.Statement.{statement}
 use Rattle.derivation_nodes.proofs.nodes.node_fault.Tie as tie

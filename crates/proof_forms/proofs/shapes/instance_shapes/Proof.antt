@@ -1,5 +1,5 @@
 use borrow.Author.Needs.{needs}
-use Rattle.reader.specs.Tests.{boths}
+use Rattle.reader.specs.TestLaws.{boths}
 use Rattle.proof_forms.specs.Shapes.{instance-parts}
 use Rattle.proof_forms.proofs.shapes.instance_shapes.Statement.{statement}
 use Rattle.proof_forms.proofs.shapes.instance_shapes.Tie as tie

@@ -3,7 +3,7 @@ use native.Mathlib.Omega.{arith}
 use Prim.Native.Nat.{_≤_, _-_}
 use mathlib.Core.Path.{_≡_}
 use Rattle.reader.specs.Words.{word}
-use Rattle.proof_rules.specs.Check.{isFresh}
+use Rattle.reader.specs.Members.{isFresh}
 use Rattle.proof_members.specs.Sequents.{sequent, membersFrom}
 use Rattle.proof_fresh.specs.Marks.{fresh-start, fresh-stop, fresh-more, fresh-end, key-of-member}
 use Rattle.proof_fresh.proofs.fresh.none_marked.Statement.{statement}

@@ -1,5 +1,5 @@
 use borrow.Author.Needs.{needs}
-use Rattle.reader.specs.Tests.{ors}
+use Rattle.reader.specs.TestLaws.{ors}
 use Rattle.proof_nodes.specs.Nodes.{At, node-is}
 use Rattle.proof_nodes.proofs.nodes.node_fault.Statement.{statement}
 use Rattle.proof_nodes.proofs.nodes.node_fault.Tie as tie

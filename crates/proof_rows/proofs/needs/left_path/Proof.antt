@@ -1,5 +1,5 @@
 use borrow.Author.Needs.{needs}
-use Rattle.reader.specs.Tests.{ifs}
+use Rattle.reader.specs.TestLaws.{ifs}
 use Rattle.proof_rows.specs.Forms.{leftPath}
 use Rattle.proof_rows.proofs.needs.left_path.Statement.{statement}
 use Rattle.proof_rows.proofs.needs.left_path.Tie as tie

@@ -1,5 +1,5 @@
 use borrow.Author.Needs.{needs}
-use Rattle.reader.specs.Tests.{boths}
+use Rattle.reader.specs.TestLaws.{boths}
 use Rattle.proof_rows.specs.Tables.{needs-of}
 use Rattle.proof_rows.proofs.needs.needs_hold.Statement.{statement}
 use Rattle.proof_rows.proofs.needs.needs_hold.Tie as tie

@@ -1,5 +1,5 @@
 use borrow.Author.Needs.{needs}
-use Rattle.reader.specs.Tests.{ifs}
+use Rattle.reader.specs.TestLaws.{ifs}
 use Rattle.proof_rows.specs.Forms.{rightPath}
 use Rattle.proof_rows.proofs.needs.right_path.Statement.{statement}
 use Rattle.proof_rows.proofs.needs.right_path.Tie as tie

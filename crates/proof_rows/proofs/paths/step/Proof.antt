@@ -1,5 +1,5 @@
 use borrow.Author.Needs.{needs}
-use Rattle.reader.specs.Tests.{ifs}
+use Rattle.reader.specs.TestLaws.{ifs}
 use Rattle.proof_rows.specs.Paths.{stepRecord}
 use Rattle.proof_rows.proofs.paths.step.Statement.{statement}
 use Rattle.proof_rows.proofs.paths.step.Tie as tie

@@ -1,5 +1,5 @@
 use borrow.Author.Needs.{needs}
-use Rattle.reader.specs.At.{kindAt, classAt}
+use Rattle.reader.specs.Kinds.{kindAt, classAt}
 use Rattle.reader.proofs.kinds.class_at.Statement.{statement}
 use Rattle.reader.proofs.kinds.class_at.Tie as tie
 

@@ -1,5 +1,5 @@
 use borrow.Author.Needs.{needs}
-use Rattle.reader.specs.Tests.{ifs}
+use Rattle.reader.specs.TestLaws.{ifs}
 use Rattle.reader.specs.Kinds.{isSymbol}
 use Rattle.reader.proofs.kinds.is_symbol.Statement.{statement}
 use Rattle.reader.proofs.kinds.is_symbol.Tie as tie

@@ -1,5 +1,5 @@
 use borrow.Author.Needs.{needs}
-use Rattle.reader.specs.At.{kindAt}
+use Rattle.reader.specs.Kinds.{kindAt}
 use Rattle.reader.proofs.kinds.kind_at.Statement.{statement}
 use Rattle.reader.proofs.kinds.kind_at.Tie as tie
 

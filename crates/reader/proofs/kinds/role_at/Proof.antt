@@ -1,5 +1,5 @@
 use borrow.Author.Needs.{needs}
-use Rattle.reader.specs.At.{kindAt, roleAt}
+use Rattle.reader.specs.Kinds.{kindAt, roleAt}
 use Rattle.reader.proofs.kinds.role_at.Statement.{statement}
 use Rattle.reader.proofs.kinds.role_at.Tie as tie
 

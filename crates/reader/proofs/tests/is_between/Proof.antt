@@ -1,5 +1,6 @@
 use borrow.Author.Needs.{needs}
-use Rattle.reader.specs.Tests.{ifs, between}
+use Rattle.reader.specs.Tests.{between}
+use Rattle.reader.specs.TestLaws.{ifs}
 use Rattle.reader.proofs.tests.is_between.Statement.{statement}
 use Rattle.reader.proofs.tests.is_between.Tie as tie
 

@@ -1,5 +1,5 @@
 use borrow.Author.Needs.{needs}
-use Rattle.reader.specs.Tests.{ifs-of}
+use Rattle.reader.specs.TestLaws.{ifs-of}
 use Rattle.reader.specs.Trees.{lower}
 use Rattle.reader.proofs.trees.lower_at.Statement.{statement}
 use Rattle.reader.proofs.trees.lower_at.Tie as tie

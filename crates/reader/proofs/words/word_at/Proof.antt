@@ -1,5 +1,5 @@
 use borrow.Author.Needs.{needs}
-use Rattle.reader.specs.Tests.{ifs}
+use Rattle.reader.specs.TestLaws.{ifs}
 use Rattle.reader.specs.Words.{through, word}
 use Rattle.reader.proofs.words.word_at.Statement.{statement}
 use Rattle.reader.proofs.words.word_at.Tie as tie

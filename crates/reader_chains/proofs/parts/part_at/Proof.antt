@@ -1,5 +1,5 @@
 use borrow.Author.Needs.{needs}
-use Rattle.reader.specs.Tests.{ifs-of}
+use Rattle.reader.specs.TestLaws.{ifs-of}
 use Rattle.reader_chains.specs.Parts.{partAt}
 use Rattle.reader_chains.proofs.parts.part_at.Statement.{statement}
 use Rattle.reader_chains.proofs.parts.part_at.Tie as tie

@@ -1,4 +1,4 @@
-use Rattle.reader.specs.Tests.{ifs}
+use Rattle.reader.specs.TestLaws.{ifs}
 use Rattle.reader_characters.specs.Cursor.{digit}
 use Rattle.reader_characters.proofs.bytes.digit_of.Statement.{statement}
 use Rattle.reader_characters.proofs.bytes.digit_of.Tie as tie

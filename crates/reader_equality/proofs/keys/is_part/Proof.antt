@@ -1,4 +1,4 @@
-use Rattle.reader.specs.Tests.{ifs, trues}
+use Rattle.reader.specs.TestLaws.{ifs, trues}
 use Rattle.reader_equality.specs.Keys.{isPart}
 use Rattle.reader_equality.proofs.keys.is_part.Statement.{statement}
 use Rattle.reader_equality.proofs.keys.is_part.Tie as tie

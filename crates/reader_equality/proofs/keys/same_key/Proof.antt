@@ -1,4 +1,4 @@
-use Rattle.reader.specs.Tests.{ifs}
+use Rattle.reader.specs.TestLaws.{ifs}
 use Rattle.reader_equality.specs.Keys.{sameKey}
 use Rattle.reader_equality.proofs.keys.same_key.Statement.{statement}
 use Rattle.reader_equality.proofs.keys.same_key.Tie as tie

@@ -1,5 +1,5 @@
 use borrow.Author.Needs.{needs}
-use Rattle.reader.specs.Tests.{ifs}
+use Rattle.reader.specs.TestLaws.{ifs}
 use Rattle.reader.specs.Places.{mostRecords}
 use Rattle.reader_headers.proofs.headers.most_records.Statement.{statement}
 use Rattle.reader_headers.proofs.headers.most_records.Tie as tie

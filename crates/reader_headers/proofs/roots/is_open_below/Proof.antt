@@ -1,5 +1,5 @@
 use borrow.Author.Needs.{needs}
-use Rattle.reader.specs.Tests.{boths}
+use Rattle.reader.specs.TestLaws.{boths}
 use Rattle.reader_headers.specs.Roots.{isOpenBelow}
 use Rattle.reader_headers.proofs.roots.is_open_below.Statement.{statement}
 use Rattle.reader_headers.proofs.roots.is_open_below.Tie as tie

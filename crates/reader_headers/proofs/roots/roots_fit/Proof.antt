@@ -1,5 +1,5 @@
 use borrow.Author.Needs.{needs}
-use Rattle.reader.specs.Tests.{boths}
+use Rattle.reader.specs.TestLaws.{boths}
 use Rattle.reader_headers.specs.Roots.{rootsFit}
 use Rattle.reader_headers.proofs.roots.roots_fit.Statement.{statement}
 use Rattle.reader_headers.proofs.roots.roots_fit.Tie as tie

@@ -1,5 +1,5 @@
 use borrow.Author.Needs.{needs}
-use Rattle.reader.specs.Tests.{ifs-of}
+use Rattle.reader.specs.TestLaws.{ifs-of}
 use Rattle.reader.specs.Names.{nameOf}
 use Rattle.reader_names.proofs.symbols.name_of.Statement.{statement}
 use Rattle.reader_names.proofs.symbols.name_of.Tie as tie

@@ -1,4 +1,4 @@
-use Rattle.reader.specs.Tests.{ifs}
+use Rattle.reader.specs.TestLaws.{ifs}
 use Rattle.reader.specs.Names.{nameSpace}
 use Rattle.reader_names.proofs.symbols.space_of.Statement.{statement}
 use Rattle.reader_names.proofs.symbols.space_of.Tie as tie

@@ -4,7 +4,7 @@ use mathlib.Core.Path.{refl}
 use Rattle.reader_equality.specs.Least.{numbered-one}
 use Rattle.reader.specs.AnswerLaws.{answers}
 use Rattle.reader.specs.Places.{reading}
-use Rattle.reader_places.specs.Places.{passed-small}
+use Rattle.reader_bodies.specs.Places.{passed-small}
 use Rattle.reader_places.proofs.places.derivation_reading.Statement.{statement}
 use Rattle.reader_places.proofs.places.derivation_reading.Tie as tie
 

@@ -1,7 +1,7 @@
 use borrow.Author.Needs.{needs}
 use native.Mathlib.Omega.{arith}
 use mathlib.Core.Path.{refl}
-use Rattle.reader_places.specs.Places.{obligation-length, obligation-header, obligation-small, obligation-rest, zeros-zeros}
+use Rattle.reader_bodies.specs.Places.{obligation-length, obligation-header, obligation-small, obligation-rest, zeros-zeros}
 use Rattle.reader_places.proofs.places.obligation_reading.Statement.{statement}
 use Rattle.reader_places.proofs.places.obligation_reading.Tie as tie
 

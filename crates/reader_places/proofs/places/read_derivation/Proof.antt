@@ -1,5 +1,5 @@
 use borrow.Author.Needs.{needs}
-use Rattle.reader_places.specs.Places.{zeros-zeros, zeros-cleared, zeros-blank, room-for-derivation}
+use Rattle.reader_bodies.specs.Places.{zeros-zeros, zeros-cleared, zeros-blank, room-for-derivation}
 use Rattle.reader_places.proofs.places.read_derivation.Statement.{statement}
 use Rattle.reader_places.proofs.places.read_derivation.Tie as tie
 

@@ -2,7 +2,7 @@ use borrow.Author.Needs.{needs}
 use native.Mathlib.Omega.{arith}
 use Rattle.reader.specs.AnswerLaws.{answers}
 use Rattle.reader.specs.Places.{reading}
-use Rattle.reader_places.specs.Places.{passed-small, zeros-zeros, zeros-cleared, zeros-blank, room-for-proof}
+use Rattle.reader_bodies.specs.Places.{passed-small, zeros-zeros, zeros-cleared, zeros-blank, room-for-proof}
 use Rattle.reader_places.proofs.places.read_proof.Statement.{statement}
 use Rattle.reader_places.proofs.places.read_proof.Tie as tie
 

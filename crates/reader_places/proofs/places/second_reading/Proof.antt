@@ -1,6 +1,6 @@
 use borrow.Author.Needs.{needs}
 use native.Mathlib.Omega.{arith}
-use Rattle.reader_places.specs.Places.{reading-length, reading-header, reading-small, reading-rest, room-fits}
+use Rattle.reader_bodies.specs.Places.{reading-length, reading-header, reading-small, reading-rest, room-fits}
 use Rattle.reader_places.proofs.places.second_reading.Statement.{statement}
 use Rattle.reader_places.proofs.places.second_reading.Tie as tie
 

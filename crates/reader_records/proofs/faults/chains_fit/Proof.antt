@@ -1,5 +1,5 @@
 use borrow.Author.Needs.{needs}
-use Rattle.reader.specs.Tests.{boths}
+use Rattle.reader.specs.TestLaws.{boths}
 use Rattle.reader.specs.Records.{chainsFit}
 use Rattle.reader_records.proofs.faults.chains_fit.Statement.{statement}
 use Rattle.reader_records.proofs.faults.chains_fit.Tie as tie
@@ -7,11 +7,11 @@ use Rattle.reader_records.proofs.faults.chains_fit.Tie as tie
 pub chains-fit-spec : {M : Type 1} → statement M
 unfolding chainsFit
 chains-fit-spec = tie.close (tie.spec
-    -- name-fits-requires: 2 args
+    -- name-length-fits-requires: 2 args
     (λ c κs. search needs)
-    -- returns: if1; 1 name-fits; 4 args
+    -- returns: if1; 1 name-length-fits; 4 args
     (λ c. search boths)
-    -- chains-of-requires: if1; 1 name-fits; 4 args
+    -- item-chains-fit-requires: if1; 1 name-length-fits; 4 args
     (λ c κs. search needs)
-    -- returns-2: chains-of; 1 if1; 2 name-fits; 5 args
+    -- returns-2: item-chains-fit; 1 if1; 2 name-length-fits; 5 args
     (λ c. search boths))

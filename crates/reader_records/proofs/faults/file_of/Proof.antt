@@ -1,5 +1,5 @@
 use borrow.Author.Needs.{needs}
-use Rattle.reader.specs.Tests.{ifs}
+use Rattle.reader.specs.TestLaws.{ifs}
 use Rattle.reader_weights.specs.Weights.{fileOf}
 use Rattle.reader_records.proofs.faults.file_of.Statement.{statement}
 use Rattle.reader_records.proofs.faults.file_of.Tie as tie

@@ -1,5 +1,5 @@
 use borrow.Author.Needs.{needs}
-use Rattle.reader.specs.Tests.{ors}
+use Rattle.reader.specs.TestLaws.{ors}
 use Rattle.reader.specs.Records.{recordFault}
 use Rattle.reader_records.specs.Faults.{words-name}
 use Rattle.reader_records.proofs.faults.record_fault.Statement.{statement}

@@ -1,5 +1,5 @@
 use borrow.Author.Needs.{needs}
-use Rattle.reader.specs.Tests.{ifs}
+use Rattle.reader.specs.TestLaws.{ifs}
 use Rattle.reader.specs.Records.{typingFits}
 use Rattle.reader_records.proofs.faults.typing_fits.Statement.{statement}
 use Rattle.reader_records.proofs.faults.typing_fits.Tie as tie

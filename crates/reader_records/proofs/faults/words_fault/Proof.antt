@@ -1,5 +1,5 @@
 use borrow.Author.Needs.{needs}
-use Rattle.reader.specs.Tests.{demands}
+use Rattle.reader.specs.TestLaws.{demands}
 use Rattle.reader.specs.Records.{wordsFault}
 use Rattle.reader_records.proofs.faults.words_fault.Statement.{statement}
 use Rattle.reader_records.proofs.faults.words_fault.Tie as tie

@@ -1,5 +1,5 @@
 use borrow.Author.Needs.{needs}
-use Rattle.reader.specs.Tests.{ifs}
+use Rattle.reader.specs.TestLaws.{ifs}
 use Rattle.reader.specs.Records.{inRange}
 use Rattle.reader_references.proofs.ranges.in_range.Statement.{statement}
 use Rattle.reader_references.proofs.ranges.in_range.Tie as tie

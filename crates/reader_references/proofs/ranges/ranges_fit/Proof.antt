@@ -1,5 +1,5 @@
 use borrow.Author.Needs.{needs}
-use Rattle.reader.specs.Tests.{boths}
+use Rattle.reader.specs.TestLaws.{boths}
 use Rattle.reader.specs.Records.{rangesFit}
 use Rattle.reader_references.proofs.ranges.ranges_fit.Statement.{statement}
 use Rattle.reader_references.proofs.ranges.ranges_fit.Tie as tie

@@ -1,5 +1,5 @@
 use borrow.Author.Needs.{needs}
-use Rattle.reader.specs.Tests.{ifs}
+use Rattle.reader.specs.TestLaws.{ifs}
 use Rattle.reader.specs.Records.{hasClass}
 use Rattle.reader_references.specs.References.{class-is}
 use Rattle.reader_references.proofs.references.has_class.Statement.{statement}

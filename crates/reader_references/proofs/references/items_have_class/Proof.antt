@@ -1,5 +1,5 @@
 use borrow.Author.Needs.{needs}
-use Rattle.reader.specs.Tests.{ifs}
+use Rattle.reader.specs.TestLaws.{ifs}
 use Rattle.reader.specs.Records.{itemsHaveClass}
 use Rattle.reader_references.proofs.references.items_have_class.Statement.{statement}
 use Rattle.reader_references.proofs.references.items_have_class.Tie as tie

@@ -1,6 +1,6 @@
 use borrow.Author.Needs.{needs}
 use Rattle.reader_types.specs.SetsAndPairs.{pair-other, pair-more, lower-same}
-use Rattle.reader.specs.Tests.{boths}
+use Rattle.reader.specs.TestLaws.{boths}
 use Rattle.reader_types.proofs.shapes.is_pair_of.Statement.{statement}
 use Rattle.reader_types.proofs.shapes.is_pair_of.Tie as tie
 

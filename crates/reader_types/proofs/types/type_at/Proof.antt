@@ -1,5 +1,5 @@
 use borrow.Author.Needs.{needs}
-use Rattle.reader.specs.Tests.{ifs-of}
+use Rattle.reader.specs.TestLaws.{ifs-of}
 use Rattle.reader_types.specs.Types.{typeAt, own-type}
 use Rattle.reader_types.proofs.types.type_at.Statement.{statement}
 use Rattle.reader_types.proofs.types.type_at.Tie as tie

@@ -7,7 +7,7 @@ use Rattle.reader_typing.proofs.applications.arguments_fit.Reads as arg
 use Rattle.reader_typing.proofs.applications.arguments_fit.Kinds as arguments-fit-kinds
 use Rattle.reader_typing.proofs.applications.+arguments_fit.Lts-arguments_fit as arguments-fit-lts
 use Rattle.reader.proofs.trees.lower_at.Reads as lower-at-reads
-use Rattle.reader_typing.proofs.instances.fits_at.Reads as fits-at-reads
+use Rattle.reader_instances.proofs.instances.fits_at.Reads as fits-at-reads
 use Rattle.reader_types.proofs.types.type_at.Reads as type-at-reads
 use Rattle.reader_typing.proofs.applications.+arguments_fit.{statement}
 use Rattle.reader_typing.proofs.applications.+arguments_fit.Tie.{close}

@@ -7,7 +7,7 @@ use Rattle.reader_typing.proofs.applications.items_below.Reads as items
 use Rattle.reader_typing.proofs.applications.items_below.Kinds as items-below-kinds
 use Rattle.reader_typing.proofs.applications.+items_below.Lts-items_below as items-below-lts
 use Rattle.reader.proofs.trees.lower_at.Reads as lower-at-reads
-use Rattle.reader_typing.proofs.signatures.types_known.Reads as types-known-reads
+use Rattle.reader_instances.proofs.signatures.types_known.Reads as types-known-reads
 use Rattle.reader_typing.proofs.applications.+items_below.{statement}
 use Rattle.reader_typing.proofs.applications.+items_below.Tie.{close}
 

@@ -1,5 +1,5 @@
 use borrow.Author.Needs.{needs}
-use Rattle.reader_typing.specs.Signatures.{known-none}
+use Rattle.reader_instances.specs.Signatures.{known-none}
 use Rattle.reader_typing.proofs.applications.signature_below.Statement.{statement}
 use Rattle.reader_typing.proofs.applications.signature_below.Tie as tie
 

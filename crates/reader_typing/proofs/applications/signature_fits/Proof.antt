@@ -1,5 +1,5 @@
 use borrow.Author.Needs.{needs}
-use Rattle.reader_typing.specs.Instances.{remembered-none}
+use Rattle.reader_instances.specs.Instances.{remembered-none}
 use Rattle.reader_typing.specs.Applications.{signature-none, signature-stop, signature-go}
 use Rattle.reader_typing.proofs.applications.signature_fits.Statement.{statement}
 use Rattle.reader_typing.proofs.applications.signature_fits.Tie as tie

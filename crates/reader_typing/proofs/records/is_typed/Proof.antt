@@ -1,5 +1,5 @@
 use borrow.Author.Needs.{needs}
-use Rattle.reader.specs.Tests.{ifs-of}
+use Rattle.reader.specs.TestLaws.{ifs-of}
 use Rattle.reader.specs.Typing.{isTyped}
 use Rattle.reader_typing.proofs.records.is_typed.Statement.{statement}
 use Rattle.reader_typing.proofs.records.is_typed.Tie as tie

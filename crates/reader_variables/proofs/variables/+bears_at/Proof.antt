@@ -1,6 +1,6 @@
 use borrow.Author.Needs.{needs}
 use native.Mathlib.Omega.{arith}
-use Rattle.reader.specs.Tests.{both-stop, both-go}
+use Rattle.reader.specs.TestLaws.{both-stop, both-go}
 use Rattle.reader_variables.specs.Variables.{bears-none, bears-index, bears-more, bears-part, bears-deeper}
 use Rattle.reader_chains.specs.Parts.{part-falls-once}
 use Prim.Native.Nat.{ℕ, _<_}

@@ -1,6 +1,6 @@
 use borrow.Author.Needs.{needs}
 use native.Mathlib.Omega.{arith}
-use Rattle.reader.specs.Tests.{boths}
+use Rattle.reader.specs.TestLaws.{boths}
 use Rattle.reader_variables.specs.Variables.{belowParts, below-none, below-more, below-part, below-deeper}
 use Rattle.reader_chains.specs.Parts.{part-falls-below}
 use Prim.Native.Nat.{ℕ, _+_, _*_, _<_}
@@ -15,7 +15,7 @@ use Rattle.reader_variables.proofs.variables.+below_at+below_parts.Lts-
 use Rattle.reader.proofs.words.word_at.Reads as word-at-reads
 use Rattle.reader_chains.proofs.parts.part_at.Reads as part-at-reads
 use Rattle.reader_variables.proofs.variables.deeper.Reads as deeper-reads
-use Rattle.reader_variables.proofs.variables.is_bound.Reads as is-bound-reads
+use Rattle.reader_variables.proofs.variables.index_below.Reads as index-below-reads
 use Rattle.reader_variables.proofs.variables.+below_at+below_parts.{statement}
 use Rattle.reader_variables.proofs.variables.+below_at+below_parts.Tie.{close}
 
@@ -41,7 +41,7 @@ below-parts-below t =
     and 2 below-parts-kinds.ps (falls 2 below-parts-kinds.ps _<_ μ-below-parts t) below-parts.Pre
 
 abbrev below-at-calls : ℕ → below-at-lts.Claims
-below-at-calls t = (word-at-reads.Asked, word-at-reads.Learnt, is-bound-reads.Asked, is-bound-reads.Learnt, below-parts-below t, below-parts.Post)
+below-at-calls t = (word-at-reads.Asked, word-at-reads.Learnt, index-below-reads.Asked, index-below-reads.Learnt, below-parts-below t, below-parts.Post)
 
 abbrev below-parts-calls : ℕ → below-parts-lts.Claims
 below-parts-calls t = (part-at-reads.Asked, part-at-reads.Learnt, below-at-below t, below-at.Post, deeper-reads.Asked, deeper-reads.Learnt)
@@ -54,13 +54,13 @@ unfolding belowParts
     (λ c. search below-none)
     -- word-at-requires: if1; 3 args
     (λ c κs. search needs)
-    -- is-bound-requires: word-at; 1 if1; 4 args
+    -- index-below-requires: word-at; 1 if1; 4 args
     (λ c κs. search needs)
-    -- returns-2: if2; 1 is-bound; 2 word-at; 3 if1; 6 args
+    -- returns-2: if2; 1 index-below; 2 word-at; 3 if1; 6 args
     (λ c. search (below-more, boths))
-    -- below-parts-requires: if2; 1 is-bound; 2 word-at; 3 if1; 6 args
+    -- below-parts-requires: if2; 1 index-below; 2 word-at; 3 if1; 6 args
     (λ c κs. omega arith)
-    -- returns-3: below-parts; 1 if2; 2 is-bound; 3 word-at; 4 if1; 7 args
+    -- returns-3: below-parts; 1 if2; 2 index-below; 3 word-at; 4 if1; 7 args
     (λ c. search (below-more, boths)))
     (λ t. below-parts-lts.spec (below-parts-calls t) (below-parts-at t) below-parts.Post
     -- part-at-requires: 2 args

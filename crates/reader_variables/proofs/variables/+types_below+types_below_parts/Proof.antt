@@ -1,6 +1,6 @@
 use borrow.Author.Needs.{needs}
 use native.Mathlib.Omega.{arith}
-use Rattle.reader.specs.Tests.{boths}
+use Rattle.reader.specs.TestLaws.{boths}
 use Rattle.reader_variables.specs.Variables.{typesBelowParts, types-none, types-more, types-part}
 use Rattle.reader_chains.specs.Parts.{part-falls}
 use Prim.Native.Nat.{ℕ, _+_, _*_, _<_}
@@ -14,7 +14,7 @@ use Rattle.reader_variables.proofs.variables.types_below_parts.Kinds as
 use Rattle.reader_variables.proofs.variables.+types_below+types_below_parts.Lts-types_below_parts as types-below-parts-lts
 use Rattle.reader.proofs.words.word_at.Reads as word-at-reads
 use Rattle.reader_chains.proofs.parts.part_at.Reads as part-at-reads
-use Rattle.reader_variables.proofs.variables.is_type_below.Reads as is-type-below-reads
+use Rattle.reader_variables.proofs.variables.type_variable_below.Reads as type-variable-below-reads
 use Rattle.reader_variables.proofs.variables.+types_below+types_below_parts.{statement}
 use Rattle.reader_variables.proofs.variables.+types_below+types_below_parts.Tie.{close}
 
@@ -49,7 +49,7 @@ types-below-parts-below t =
     types-below-parts.Pre
 
 abbrev types-below-calls : ℕ → types-below-lts.Claims
-types-below-calls t = (word-at-reads.Asked, word-at-reads.Learnt, is-type-below-reads.Asked, is-type-below-reads.Learnt, types-below-parts-below t, types-below-parts.Post)
+types-below-calls t = (word-at-reads.Asked, word-at-reads.Learnt, type-variable-below-reads.Asked, type-variable-below-reads.Learnt, types-below-parts-below t, types-below-parts.Post)
 
 abbrev types-below-parts-calls : ℕ → types-below-parts-lts.Claims
 types-below-parts-calls t = (part-at-reads.Asked, part-at-reads.Learnt, types-below-below t, types-below.Post)
@@ -62,13 +62,13 @@ unfolding typesBelowParts
     (λ c. search types-none)
     -- word-at-requires: if1; 3 args
     (λ c κs. search needs)
-    -- is-type-below-requires: word-at; 1 if1; 4 args
+    -- type-variable-below-requires: word-at; 1 if1; 4 args
     (λ c κs. search needs)
-    -- returns-2: if2; 1 is-type-below; 2 word-at; 3 if1; 6 args
+    -- returns-2: if2; 1 type-variable-below; 2 word-at; 3 if1; 6 args
     (λ c. search (types-more, boths))
-    -- types-below-parts-requires: if2; 1 is-type-below; 2 word-at; 3 if1; 6 args
+    -- types-below-parts-requires: if2; 1 type-variable-below; 2 word-at; 3 if1; 6 args
     (λ c κs. omega arith)
-    -- returns-3: types-below-parts; 1 if2; 2 is-type-below; 3 word-at; 4 if1; 7 args
+    -- returns-3: types-below-parts; 1 if2; 2 type-variable-below; 3 word-at; 4 if1; 7 args
     (λ c. search (types-more, boths)))
     (λ t. types-below-parts-lts.spec (types-below-parts-calls t) (types-below-parts-at t) types-below-parts.Post
     -- part-at-requires: 2 args

@@ -1,5 +1,5 @@
 use borrow.Author.Needs.{needs}
-use Rattle.reader.specs.Tests.{ifs-of}
+use Rattle.reader.specs.TestLaws.{ifs-of}
 use Rattle.reader.specs.Weight.{isWeighed}
 use Rattle.reader_weights.proofs.weights.is_weighed.Statement.{statement}
 use Rattle.reader_weights.proofs.weights.is_weighed.Tie as tie

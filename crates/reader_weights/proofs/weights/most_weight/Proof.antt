@@ -1,5 +1,5 @@
 use borrow.Author.Needs.{needs}
-use Rattle.reader.specs.Tests.{ifs}
+use Rattle.reader.specs.TestLaws.{ifs}
 use Rattle.reader.specs.Records.{mostWeight}
 use Rattle.reader_weights.proofs.weights.most_weight.Statement.{statement}
 use Rattle.reader_weights.proofs.weights.most_weight.Tie as tie

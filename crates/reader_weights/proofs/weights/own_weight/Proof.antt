@@ -1,5 +1,5 @@
 use borrow.Author.Needs.{needs}
-use Rattle.reader.specs.Tests.{trues}
+use Rattle.reader.specs.TestLaws.{trues}
 use Rattle.reader.specs.Weight.{ownWeight}
 use Rattle.reader_weights.proofs.weights.own_weight.Statement.{statement}
 use Rattle.reader_weights.proofs.weights.own_weight.Tie as tie

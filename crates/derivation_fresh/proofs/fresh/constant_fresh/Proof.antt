@@ -1,0 +1,25 @@
+use borrow.Author.Needs.{needs}
+use native.Mathlib.Omega.{arith}
+use Rattle.derivation_members.specs.Needs.{at-given, form-normal}
+use Rattle.derivation_fresh.specs.Fresh.{fresh-none, fresh-one}
+use Rattle.derivation_fresh.proofs.fresh.constant_fresh.Statement.{statement}
+use Rattle.derivation_fresh.proofs.fresh.constant_fresh.Tie as tie
+
+pub constant-fresh-spec : {M : Type 1} → statement M
+constant-fresh-spec = tie.close (tie.spec
+    -- word-at-requires: 5 args
+    (λ c κs. search needs)
+    -- returns: if1; 1 word-at; 7 args
+    (λ c. search fresh-none)
+    -- goal-at-requires: if1; 1 word-at; 7 args
+    (λ c κs. search needs)
+    -- form-key-requires: goal-at; 1 if1; 2 word-at; 8 args
+    (λ c κs. search at-given)
+    -- atom-of-requires: form-key; 1 goal-at; 2 if1; 3 word-at; 9 args
+    (λ c κs. search form-normal)
+    -- is-fresh-requires: is-fresh-arg; 1 atom-of; 2 form-key; 3 goal-at; 4 if1; 5 word-at; 11 args
+    (λ c κs. search needs)
+    -- same-length: 1 marks; 2 is-fresh; 3 is-fresh-arg; 4 atom-of; 5 form-key; 6 goal-at; 7 if1; 8 word-at; 14 args
+    (λ c. search needs)
+    -- returns-2: 1 marks; 2 is-fresh; 3 is-fresh-arg; 4 atom-of; 5 form-key; 6 goal-at; 7 if1; 8 word-at; 14 args
+    (λ c. search fresh-one))

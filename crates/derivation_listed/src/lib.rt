@@ -1,0 +1,3 @@
+// The members of a sequent in a search tree, for the parts that BR2 keeps.
+pub mod filled;
+pub mod listed;

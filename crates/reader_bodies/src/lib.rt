@@ -1,0 +1,2 @@
+// The places of a file behind its header: records, roots, naming.
+pub mod bodies;
