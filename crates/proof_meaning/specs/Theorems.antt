@@ -40,7 +40,7 @@ proof-accepted ob pf h =
     (r .0, answer-is ob pf (p .0) ∙ r .2 ∙ from-none (r .0))
 
 -- the start, read from the obligation by itself
-start-is : (ob pf : List ℕ) → ReadObligation ob → ReadSecond 1 ob pf →
+pub start-is : (ob pf : List ℕ) → ReadObligation ob → ReadSecond 1 ob pf →
     startSequent (beside ob pf) ≡ hypotheses (alone ob) ▹ ¬ᵗ (goal (alone ob))
 unfolding startSequent firstOf
 start-is ob pf r t =

@@ -1,0 +1,1 @@
+// The addresses of the records that the translation writes, as laws (no code).

@@ -1,0 +1,4 @@
+pub mod Build
+pub mod Indices
+pub mod Blocks
+pub mod Quantified

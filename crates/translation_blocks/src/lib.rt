@@ -1,0 +1,1 @@
+// The blocks of the translation derive what they should. The laws stand in specs/.

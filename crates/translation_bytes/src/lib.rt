@@ -1,0 +1,1 @@
+// That the bytes of the translation read back as its records, as laws (no code).

@@ -1,0 +1,4 @@
+pub mod Copies
+pub mod Kept
+pub mod Sound
+pub mod Outputs

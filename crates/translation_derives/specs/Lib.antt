@@ -1,0 +1,3 @@
+pub mod Wholes
+pub mod Members
+pub mod Nodes

@@ -1,0 +1,1 @@
+// Each rule node of the written derivation is named exactly once, as theorems (no code).

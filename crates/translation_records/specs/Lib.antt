@@ -1,0 +1,11 @@
+pub mod Choices
+pub mod Fits
+pub mod Pass
+pub mod Words
+pub mod Lines
+pub mod Kept
+pub mod Addresses
+pub mod AddressLaws
+pub mod Letters
+pub mod Blocks
+pub mod Below

@@ -1,0 +1,4 @@
+pub mod Templates
+pub mod Output
+pub mod Bytes
+pub mod Check

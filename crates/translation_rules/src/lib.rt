@@ -1,0 +1,1 @@
+// The translation: templates, addresses and what is written, as definitions (no code).
