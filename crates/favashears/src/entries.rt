@@ -4,10 +4,14 @@ use proof_check::check::check_proof;
 use reader::Answer;
 use reader_places::places::read_derivation;
 use reader_places::places::read_proof;
+use translation::translate::translate;
 ghost use mathlib.Core.Path.{_≡_};
 ghost use Rattle.reader.specs.Places.{reading};
 ghost use Rattle.proof_rules.specs.Check.{proofAnswer};
 ghost use Rattle.derivation_rules.specs.Check.{derivationAnswer};
+ghost use lib.ListN.{length as size};
+ghost use Rattle.translation_rules.specs.Check.{translationAnswer};
+ghost use Rattle.translation_meaning.specs.Translates.{Translates};
 ghost use Rattle.favashears.specs.Pack.{pack};
 
 // The answer in one number.
@@ -38,6 +42,23 @@ pub extern "C" fn desk_check_derivation(obligation: &[u8], derivation: &[u8]) ->
     ensures { λ r. ⌜ r ≡ pack (derivationAnswer (now (obligation .entry)) (now (derivation .entry))) ⌝ }
 {
     pack(check_derivation(obligation, derivation))
+}
+
+// The answer to an obligation, a proof and a buffer, and the derivation's length, 0 on a refusal.
+#[no_mangle]
+pub extern "C" fn desk_translate(
+    obligation: &[u8],
+    proof: &[u8],
+    buffer: &mut [u8],
+    length: &mut u64,
+) -> u64
+    ensures { λ r. ⌜ r ≡ pack (translationAnswer (now (obligation .entry)) (now (proof .entry)) (size (now (buffer .entry)))) ⌝
+        ∗ ⌜ Translates (now (obligation .entry)) (now (proof .entry)) (now (buffer .entry)) (now (buffer .exit))
+        (translationAnswer (now (obligation .entry)) (now (proof .entry)) (size (now (buffer .entry)))) (now (length .exit)) ⌝ }
+{
+    let t = translate(obligation, proof, buffer);
+    *length = t.length as u64;
+    pack(t.answer)
 }
 
 // Places 1 to 12 of an obligation and a proof.

@@ -11,7 +11,7 @@ use lib.Seq.{drop-cons, getD-set-same, drop-set-lt, append-snoc}
 use Rattle.reader.specs.Tests.{ifLt}
 use Rattle.reader.specs.DownLaws.{Local, down-zero, down-step}
 use Rattle.reader.specs.declared.Answer.{Answer}
-use Rattle.programs.specs.Lines.{digit, decimalStep, decimal, line, EndsIn}
+use Rattle.programs.specs.Lines.{digit, decimalStep, decimal, line, EndsIn, translationLine, TranslationEndsIn}
 
 step-local : Local decimalStep
 unfolding decimalStep
@@ -83,3 +83,13 @@ line-of a end s₁ s₂ s₃ s₄ none e₁ e₂ e₃ e₄ = rw (e₄, e₃, e�
 -- an area that ends in the line of an answer ends in that of an equal one
 pub ends-in-equal : (a b : Answer) (out : List ℕ) (begin : ℕ) → a ≡ b → EndsIn a out begin → EndsIn b out begin
 ends-in-equal a b out begin e w = rw (← e) w
+
+-- five numbers written before each other, nothing after them
+pub translation-line-of : (a : Answer) (n : ℕ) (end s₁ s₂ s₃ s₄ s₅ : List ℕ) → end ≡ [] → s₁ ≡ decimal n ++ (10 ∷ end) → s₂ ≡ decimal (a .nodes) ++ (32 ∷ s₁)
+    → s₃ ≡ decimal (a .at) ++ (32 ∷ s₂) → s₄ ≡ decimal (a .file) ++ (32 ∷ s₃) → s₅ ≡ decimal (a .refusal) ++ (32 ∷ s₄) → s₅ ≡ translationLine a n
+unfolding translationLine
+translation-line-of a n end s₁ s₂ s₃ s₄ s₅ none e₁ e₂ e₃ e₄ e₅ = rw (e₅, e₄, e₃, e₂, e₁, none)
+
+-- the line of an answer and a length is that of an equal answer
+pub translation-ends-in-equal : (a b : Answer) (n : ℕ) (out : List ℕ) (begin : ℕ) → a ≡ b → TranslationEndsIn a n out begin → TranslationEndsIn b n out begin
+translation-ends-in-equal a b n out begin e w = rw (← e) w

@@ -1,4 +1,4 @@
--- The line of an answer: its four numbers in decimal, single spaces between, a newline at its end.
+-- The line of an answer: its four numbers in decimal, single spaces between, a newline at its end; the translation's has the length as a fifth.
 use Prim.Native.Nat.{ℕ, _+_, _/_, _%_, _<_}
 use mathlib.Core.Path.{_≡_}
 use mathlib.Core.List.{List, [], _∷_, _++_}
@@ -27,3 +27,15 @@ pub record EndsIn (a : Answer) (out : List ℕ) (begin : ℕ) : Type 0 where
   pub whole : 84 ≡ length out
   pub inside : begin < 84
   pub text : drop begin out ≡ line a
+
+-- the four numbers and the derivation's length
+unfoldable pub translationLine : Answer → ℕ → List ℕ
+translationLine a n =
+    decimal (a .refusal)
+    ++ (32 ∷ decimal (a .file) ++ (32 ∷ decimal (a .at) ++ (32 ∷ decimal (a .nodes) ++ (32 ∷ decimal n ++ (10 ∷ [])))))
+
+-- the same for an area of 105 bytes and a line of five numbers
+pub record TranslationEndsIn (a : Answer) (n : ℕ) (out : List ℕ) (begin : ℕ) : Type 0 where
+  pub whole : 105 ≡ length out
+  pub inside : begin < 105
+  pub text : drop begin out ≡ translationLine a n

@@ -4,7 +4,7 @@ ghost use mathlib.Core.Path.{_≡_};
 ghost use mathlib.Core.List.{_∷_, _++_};
 ghost use Prim.Native.Nat.{_+_, _≤_, _<_};
 ghost use lib.ListN.{length, drop};
-ghost use Rattle.programs.specs.Lines.{decimal, EndsIn};
+ghost use Rattle.programs.specs.Lines.{decimal, EndsIn, TranslationEndsIn};
 
 // Writes a byte before place `end`; its place.
 fn put_byte(out: &mut [u8], end: usize, byte: u8) -> usize
@@ -47,6 +47,17 @@ pub fn put_line(out: &mut [u8; 84], a: Answer) -> usize
     let at = put_number(out, nodes, a.at, b' ');
     let file = put_number(out, at, a.file, b' ');
     put_number(out, file, a.refusal, b' ')
+}
+
+// Writes the line of a translation's answer, with the derivation's length, at the end of the area; where it begins.
+pub fn put_translation(out: &mut [u8; 105], a: Answer, bytes: usize) -> usize
+    ensures { λ r. ⌜ TranslationEndsIn a bytes (now (out .exit)) r ⌝ }
+{
+    let fifth = put_number(out, 105, bytes, b'\n');
+    let fourth = put_number(out, fifth, a.nodes, b' ');
+    let third = put_number(out, fourth, a.at, b' ');
+    let second = put_number(out, third, a.file, b' ');
+    put_number(out, second, a.refusal, b' ')
 }
 
 // Writes a line to standard output; a message where that fails.

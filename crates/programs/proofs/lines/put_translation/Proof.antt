@@ -1,0 +1,36 @@
+use borrow.Author.Needs.{needs}
+use native.Mathlib.Omega.{arith}
+use mathlib.Core.Path.{_≡_}
+use mathlib.Core.List.{[]}
+use lib.ListN.{drop, drop-of-length-le}
+use Rattle.programs.specs.LineLaws.{translation-line-of}
+use Rattle.programs.proofs.lines.put_translation.Statement.{statement}
+use Rattle.programs.proofs.lines.put_translation.Tie as tie
+
+pub put-translation-spec : {M : Type 1} → statement M
+put-translation-spec = tie.close (tie.spec
+    -- put-number-requires: put-number-arg; 1 args
+    (λ c κs. search needs)
+    -- put-number-requires-2: put-number-arg2; 1 put-number; 2 put-number-arg; 3 args
+    (λ c κs. search needs)
+    -- put-number-requires-3
+    (λ c κs. search needs)
+    -- put-number-requires-4
+    (λ c κs. search needs)
+    -- put-number-requires-5
+    (λ c κs. search needs)
+    -- returns: put-number5; 1 put-number-arg5; 2 put-number4; 4 put-number3; 6 put-number2; 8 put-number; 10 args
+    (λ c.
+    let second = c .before .before .before .before .before .before in
+    let out = second .before .before .before .before .args .out .now in
+    let none : drop 105 out ≡ [] = drop-of-length-le out {i = 105} (omega arith) in
+    record {
+      whole = omega arith;
+      inside = omega arith;
+      text = translation-line-of _ _ _ _ _ _ _ _ none
+          (second .before .before .put-number .ensures .2)
+          (second .put-number2 .ensures .2)
+          (c .before .before .before .before .put-number3 .ensures .2)
+          (c .before .before .put-number4 .ensures .2)
+          (c .put-number5 .ensures .2);
+    }))

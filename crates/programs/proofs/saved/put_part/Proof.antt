@@ -1,0 +1,18 @@
+use borrow.Author.Needs.{needs}
+use native.Mathlib.Omega.{arith}
+use Rattle.io.proofs.Counting.{counts}
+use Rattle.programs.proofs.saved.put_part.Statement.{statement}
+use Rattle.programs.proofs.saved.put_part.Tie as tie
+
+pub put-part-spec : {M : Type 1} → statement M
+put-part-spec = tie.close (tie.spec
+    -- put-bytes-requires
+    (λ c κs. search needs)
+    -- slice-aggregate-put-bytes
+    (λ c. search needs)
+    -- put-bytes-requires-2
+    (λ c κs. search needs)
+    -- same-length
+    (λ c. search needs)
+    -- returns
+    (λ c. record { counts = counts _ _ (omega arith); text = cc }))
