@@ -1,4 +1,5 @@
-/* Calls the desk from C, as the proof editor does: the samples through the whole check and through places 1 to 12, and derivations as deep as they may be. */
+/* Calls the desk from C, as the proof editor does: the samples through the whole check and through places 1 to 12, derivations as deep
+ * as they may be, and the samples through the translation. */
 #include <stdio.h>
 
 #include "cases.h"
@@ -46,6 +47,89 @@ static void check_deep(uint32_t depth, struct desk_answer wanted)
     expect("a deep derivation", desk_check_derivation(obligation.bytes, obligation.length, deep, length), wanted);
 }
 
+/* The bytes that a case's translation may need at most, and bytes behind the largest buffer that is lent. */
+enum { MOST_ROOM = 16 * (1 + 64 * (MOST_CASE_BYTES / 16)), BEHIND = 64 };
+
+/* A byte of the pattern that the area of the buffer is filled with. */
+static uint8_t pattern(size_t place)
+{
+    return (uint8_t)(37 * place + place / 256 + 101);
+}
+
+static void expect_number(const char *name, const char *what, uint64_t found, uint64_t wanted)
+{
+    if (found == wanted) {
+        passed++;
+    } else {
+        failed++;
+        printf("%s: %s %llu, wanted %llu\n", name, what, (unsigned long long)found, (unsigned long long)wanted);
+    }
+}
+
+/* The least buffer that is not too short: n + 1 are the proof's records with its header. */
+static size_t room(const struct pair *p)
+{
+    return 16 * (1 + 64 * (p->second.length / 16));
+}
+
+/* The bytes of an accepted proof's translation: its header, the proof's records, those for each rule node, and five. */
+static uint64_t translated_length(const struct pair *p)
+{
+    static const unsigned blocks[] = {1, 7, 6, 6, 17, 10, 10, 15, 16, 14, 21, 18, 9, 5, 17};
+    size_t records = p->second.length / 16 + 5;
+    for (size_t i = 16; i < p->second.length; i += 16) {
+        unsigned kind = p->second.bytes[i];
+        if (kind >= 32 && kind < 32 + COUNT(blocks))
+            records += blocks[kind - 32];
+    }
+    return 16 * records;
+}
+
+/* The accepted proofs among the samples have a node of rule 43 and one of 35: their derivation has 7 + 3 nodes for these, and two. */
+static const struct desk_answer derivation_answer = {0, 0, 0, 12};
+
+/* Translates with so large a buffer: the answer, the length, what is in the buffer and behind it, and the check of the derivation. */
+static void translate(const char *name, const struct pair *p, size_t size, struct desk_answer wanted)
+{
+    static uint8_t area[MOST_ROOM + BEHIND];
+    uint64_t length = UINT64_MAX, wanted_length = wanted.refusal == 0 ? translated_length(p) : 0;
+    size_t changed = 0;
+    for (size_t i = 0; i < sizeof area; i++)
+        area[i] = pattern(i);
+    expect(name, desk_translate(p->obligation.bytes, p->obligation.length, p->second.bytes, p->second.length, area, size, &length), wanted);
+    expect_number(name, "length", length, wanted_length);
+    for (size_t i = wanted_length; i < sizeof area; i++)
+        changed += area[i] != pattern(i);
+    expect_number(name, "changed bytes past the length", changed, 0);
+    if (wanted.refusal == 0)
+        expect(name, desk_check_derivation(p->obligation.bytes, p->obligation.length, area, wanted_length), derivation_answer);
+}
+
+/* A sample as a proof, in buffers of no bytes, of one byte too few, of just enough and of more: a refusal of the proof comes first. */
+static void check_translation(const struct sample *s)
+{
+    struct pair p = pair_of(s);
+    struct desk_answer whole = s->base->derivation ? desk_unpack(ask(desk_check_proof, &p)) : s->answer;
+    struct desk_answer of_short = whole.refusal == 0 ? (struct desk_answer){19, 2, 0, whole.nodes} : whole;
+    size_t enough = room(&p);
+    translate(s->name, &p, 0, of_short);
+    translate(s->name, &p, translated_length(&p), of_short);
+    translate(s->name, &p, enough - 1, of_short);
+    translate(s->name, &p, enough, whole);
+    translate(s->name, &p, enough + 1, whole);
+    translate(s->name, &p, MOST_ROOM, whole);
+}
+
+/* The first sample, its numbers written out. */
+static void check_first_translation(void)
+{
+    struct pair p = pair_of(&samples[0]);
+    expect_number("d1", "room", room(&p), 12304);
+    expect_number("d1", "length of the translation", translated_length(&p), 656);
+    translate("d1", &p, 12303, (struct desk_answer){19, 2, 0, 2});
+    translate("d1", &p, 12304, (struct desk_answer){0, 0, 0, 2});
+}
+
 int main(void)
 {
     for (size_t k = 0; k < COUNT(samples); k++)
@@ -54,6 +138,9 @@ int main(void)
     expect("a proof as a derivation", ask(desk_read_derivation, &p), (struct desk_answer){3, 2, 12, 0});
     check_deep(TOO_DEEP - 1, (struct desk_answer){0, 0, 0, TOO_DEEP - 1});
     check_deep(TOO_DEEP, (struct desk_answer){18, 2, 4, TOO_DEEP});
+    check_first_translation();
+    for (size_t k = 0; k < COUNT(samples); k++)
+        check_translation(&samples[k]);
     printf("%u passed, %u failed\n", passed, failed);
     return failed != 0;
 }

@@ -1,6 +1,6 @@
 #!/usr/bin/env bash
-# Runs the programs on the stored samples, on files that are too long, and on what they can't read, each with the usual
-# stack of 8 MiB. Ends with 'N passed, M failed'.
+# Runs the programs on the stored samples, on files that are too long, and on what they can't read or write, each with the
+# usual stack of 8 MiB. Ends with 'N passed, M failed'.
 set -euo pipefail
 cd "$(dirname "$0")/.."
 ulimit -s 8192
@@ -20,17 +20,22 @@ expect() {
     fi
 }
 
-# use KIND: from here on the program for a kind of second file is run.
+# use KIND: from here on the program for a kind of second file is run, or the one that translates.
 use() {
     kind=$1
     case $kind in
     proof) program=desk ;;
     derivation) program=desk_derivation ;;
+    translation) program=desk_translate ;;
     esac
 }
 
-# answers WHAT LINE OBLIGATION SECOND: the line on standard output, with its end, and nothing on standard error.
-answers() { expect "$1" "$2"$'\n.' "$("target/bin/$program" "$3" "$4" 2>&1 && echo .)"; }
+# answers WHAT LINE ARGUMENT..: the line on standard output, with its end, and nothing on standard error.
+answers() {
+    local what=$1 line=$2
+    shift 2
+    expect "$what" "$line"$'\n.' "$("target/bin/$program" "$@" 2>&1 && echo .)"
+}
 
 # says WHAT MESSAGE ARGUMENT..: the message on standard error, and nothing on standard output.
 says() {
@@ -72,6 +77,54 @@ tries() {
     says "three arguments" "$usage" a b c
 }
 
+# translated NAME LINE: a stored proof's line with the derivation's length behind it. Where it accepts there is a file of that
+# length, which the derivation check accepts; where it refuses there is none.
+translated() {
+    local obligation=$samples/$1.obligation file=$folder/$1.derivation length=0 answer
+    answer=$("target/bin/$program" "$obligation" "$samples/$1.proof" "$file" 2>&1 && echo .)
+    if [ "${2%% *}" = 0 ]; then
+        length=$(wc -c <"$file" || echo none)
+        expect "$1, the derivation checked" "0 0 0" "$(target/bin/desk_derivation "$obligation" "$file" 2>&1 | cut -d ' ' -f 1-3)"
+        rm -f "$file"
+    fi
+    expect "$1 translated" "$2 $length"$'\n.' "$answer"
+    expect "$1, other files" "" "$(ls -A "$folder")"
+}
+
+# translations: every stored proof translated; an existing file, what can't be written, what can't be read.
+translations() {
+    use translation
+    local folder=$work/translations d1=("$samples/d1.obligation" "$samples/d1.proof") of name line usage
+    mkdir "$folder"
+    while read -r of name line; do
+        if [ "$of" = proof ]; then translated "$name" "$line"; fi
+    done <"$samples/expected"
+    padded "$samples/d1.proof" 49169
+    answers "a proof of 49169 bytes" "1 2 0 0 0" "$samples/d1.obligation" "$work/padded" "$folder/made"
+    expect "a proof of 49169 bytes, files" "" "$(ls -A "$folder")"
+
+    echo kept >"$folder/kept"
+    answers "a refused proof over a file" "12 2 12 0 0" "$samples/d2.obligation" "$samples/d2.proof" "$folder/kept"
+    expect "no space for the derivation" "$folder/kept: File too large" \
+        "$(trap '' XFSZ && ulimit -f 0 && "target/bin/$program" "${d1[@]}" "$folder/kept" 2>&1)"
+    expect "files after these" "kept" "$(ls -A "$folder")"
+    expect "the file after these" "kept" "$(cat "$folder/kept")"
+    mv "$folder/kept" "$folder/made.part"
+    says "a file that has the temporary one's name" "$folder/made.part: File exists" "${d1[@]}" "$folder/made"
+    expect "that file" "kept" "$(cat "$folder/made.part")"
+    mv "$folder/made.part" "$folder/kept"
+
+    says "a folder that is not there" "$folder/none/made: No such file or directory" "${d1[@]}" "$folder/none/made"
+    says "a file in the folder's place" "$folder/kept/made: Not a directory" "${d1[@]}" "$folder/kept/made"
+    says "a folder in the file's place" "$folder: Is a directory" "${d1[@]}" "$folder"
+    says "no proof" "$work/none: No such file or directory" "$samples/d1.obligation" "$work/none" "$folder/made"
+    usage="usage: desk_translate OBLIGATION PROOF DERIVATION"
+    says "two arguments" "$usage" "${d1[@]}"
+    says "four arguments" "$usage" "${d1[@]}" a b
+    expect "files after these" "kept" "$(ls -A "$folder")"
+    expect "a file beside the folder" "" "$(ls -d "$folder.part" 2>/dev/null)"
+}
+
 while read -r of name line; do
     use "$of"
     answers "$name" "$line" "$samples/$name.obligation" "$samples/$name.$kind"
@@ -85,6 +138,8 @@ target/samples_c "$work" 8192
 answers "a derivation 8,192 nodes deep" "0 0 0 8192" "$samples/e17.obligation" "$work/deep.derivation"
 target/samples_c "$work" 8193
 answers "a derivation 8,193 nodes deep" "18 2 4 8193" "$samples/e17.obligation" "$work/deep.derivation"
+
+translations
 
 echo "$passed passed, $failed failed"
 [ "$failed" -eq 0 ]

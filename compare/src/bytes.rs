@@ -4,6 +4,8 @@ use second::generate::rng::Rng;
 use second::generate::{derivation_case, proof_case, Case};
 use second::reader::Second;
 
+const MOST_RAW_BYTES: usize = 600;
+
 pub fn case(kind: Second, seed: u64) -> Case {
     match kind {
         Second::Proof => proof_case(seed),
@@ -81,4 +83,43 @@ fn leave_out_record(rng: &mut Rng, bytes: &mut Vec<u8>) {
     let at = 16 * rng.range(1, records - 1);
     bytes.drain(at..at + 16);
     bytes[4..8].copy_from_slice(&(records as u32 - 2).to_le_bytes());
+}
+
+/// Random files and damaged ones, with what they are.
+pub fn raw(kind: Second, seed: u64) -> (&'static str, [Vec<u8>; 2]) {
+    let mut rng = Rng::new(seed);
+    match rng.below(6) {
+        0 => {
+            let files = [0; 2].map(|_| random(&mut rng, MOST_RAW_BYTES));
+            ("random", files)
+        }
+        1 => {
+            let first = random_records(&mut rng, MOST_RAW_BYTES, None);
+            let m = (first.len() / 16 - 1) as u32;
+            let second = random_records(&mut rng, MOST_RAW_BYTES, Some(m));
+            ("random records", [first, second])
+        }
+        which => damaged(&mut rng, which, small_case(kind, seed, MOST_RAW_BYTES)),
+    }
+}
+
+fn damaged(rng: &mut Rng, which: usize, case: Case) -> (&'static str, [Vec<u8>; 2]) {
+    let (first, mut second) = (case.obligation, case.second);
+    match which {
+        2 => ("random second", [first, random(rng, MOST_RAW_BYTES)]),
+        3 => {
+            let m = (first.len() / 16).saturating_sub(1) as u32;
+            let second = random_records(rng, MOST_RAW_BYTES, Some(m));
+            ("random second records", [first, second])
+        }
+        4 => {
+            damage(rng, &mut second);
+            ("damaged second", [first, second])
+        }
+        _ => {
+            let mut files = [first, second];
+            files.iter_mut().for_each(|bytes| damage(rng, bytes));
+            ("both damaged", files)
+        }
+    }
 }

@@ -30,6 +30,15 @@ extern "C" {
         derivation: *const u8,
         derivation_len: usize,
     ) -> u64;
+    fn desk_translate(
+        obligation: *const u8,
+        obligation_len: usize,
+        proof: *const u8,
+        proof_len: usize,
+        buffer: *mut u8,
+        buffer_len: usize,
+        length: *mut u64,
+    ) -> u64;
 }
 
 /// The proved code's answer.
@@ -53,6 +62,25 @@ fn call(entry: Entry, obligation: &[u8], second: &[u8]) -> Answer {
         )
     };
     unpack(packed)
+}
+
+/// The proved code's answer and the length of what it wrote at the buffer's beginning.
+pub fn translate(obligation: &[u8], proof: &[u8], buffer: &mut [u8]) -> (Answer, u64) {
+    // No length that is right, so that one that is left as it was is found.
+    let mut length = u64::MAX;
+    // SAFETY: the two areas are lent for the call and the buffer is lent for writing, each with its own length.
+    let packed = unsafe {
+        desk_translate(
+            obligation.as_ptr(),
+            obligation.len(),
+            proof.as_ptr(),
+            proof.len(),
+            buffer.as_mut_ptr(),
+            buffer.len(),
+            &mut length,
+        )
+    };
+    (unpack(packed), length)
 }
 
 /// Refusal in bits 56 to 63, file in 48 to 55, record in 24 to 47, nodes in 0 to 23.

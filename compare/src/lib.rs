@@ -5,6 +5,7 @@ pub mod desk;
 pub mod shapes;
 pub mod tally;
 pub mod threads;
+pub mod translation;
 
 use second::reader::Second;
 use second::Answer;

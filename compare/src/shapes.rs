@@ -1,6 +1,7 @@
 //! Large files for measuring: ordinary ones, and ones that are costly for a careless reader.
 
 pub mod derivations;
+pub mod edges;
 pub mod walks;
 
 use second::generate::rng::Rng;
@@ -436,7 +437,11 @@ pub fn names_against_the_key(kind: Second, most: u32) -> Shape {
     const BY: u64 = 65521;
     let number = |letters: &[u8]| letters.iter().fold(0u64, |n, &c| n << 8 | u64::from(c));
     let letters = &LETTERS[..52];
-    let pairs = || letters.iter().flat_map(|&a| letters.iter().map(move |&b| [a, b]));
+    let pairs = || {
+        letters
+            .iter()
+            .flat_map(|&a| letters.iter().map(move |&b| [a, b]))
+    };
     let mut first_of = vec![None; BY as usize];
     for [a, b] in pairs() {
         first_of[(number(&[a, b, 0, 0, 0, 0, 0, 0]) % BY) as usize] = Some([a, b]);

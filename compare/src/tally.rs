@@ -7,7 +7,7 @@ use std::fmt::Write;
 /// Nodes from which on an accepted file counts as large.
 pub const LARGE: u64 = 200;
 /// Differences that are shown in full.
-const MOST_SHOWN: usize = 5;
+pub(crate) const MOST_SHOWN: usize = 5;
 /// Longest file that is shown in full.
 const MOST_SHOWN_BYTES: usize = 4_096;
 
@@ -107,7 +107,7 @@ impl Tally {
     }
 }
 
-fn hex(bytes: &[u8]) -> String {
+pub(crate) fn hex(bytes: &[u8]) -> String {
     if bytes.len() > MOST_SHOWN_BYTES {
         return format!("({} bytes)", bytes.len());
     }

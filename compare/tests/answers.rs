@@ -1,14 +1,12 @@
 //! The proved code gives the second implementation's answers: places 1 to 12, the proof check and the derivation check.
 
-use compare::bytes::{case, damage, random, random_records, small_case};
+use compare::bytes::{case, raw};
 use compare::desk;
 use compare::tally::Tally;
 use compare::threads::{in_thread, in_threads};
 use compare::Asked;
 use second::generate::large_cases;
 use second::generate::limits::limits;
-use second::generate::rng::Rng;
-use second::generate::Case;
 use second::reader::Second;
 use second::vectors::{vectors, FILES};
 use second::Answer;
@@ -19,7 +17,6 @@ const CHECKED_CASES: u64 = 100_000;
 const RAW_CASES: u64 = 30_000;
 /// Each makes some seven pairs.
 const LARGE_CASES: u64 = 3_000;
-const MOST_RAW_BYTES: usize = 600;
 
 /// The number of generated cases for each question: COMPARE_CASES, or the usual one.
 fn generated_cases(asked: Asked) -> u64 {
@@ -147,44 +144,6 @@ fn raw_bytes() {
             tally.compare(&label, asked, &obligation[shift..], &second[shift..]);
         },
     );
-}
-
-fn raw(kind: Second, seed: u64) -> (&'static str, [Vec<u8>; 2]) {
-    let mut rng = Rng::new(seed);
-    match rng.below(6) {
-        0 => {
-            let files = [0; 2].map(|_| random(&mut rng, MOST_RAW_BYTES));
-            ("random", files)
-        }
-        1 => {
-            let first = random_records(&mut rng, MOST_RAW_BYTES, None);
-            let m = (first.len() / 16 - 1) as u32;
-            let second = random_records(&mut rng, MOST_RAW_BYTES, Some(m));
-            ("random records", [first, second])
-        }
-        which => damaged(&mut rng, which, small_case(kind, seed, MOST_RAW_BYTES)),
-    }
-}
-
-fn damaged(rng: &mut Rng, which: usize, case: Case) -> (&'static str, [Vec<u8>; 2]) {
-    let (first, mut second) = (case.obligation, case.second);
-    match which {
-        2 => ("random second", [first, random(rng, MOST_RAW_BYTES)]),
-        3 => {
-            let m = (first.len() / 16).saturating_sub(1) as u32;
-            let second = random_records(rng, MOST_RAW_BYTES, Some(m));
-            ("random second records", [first, second])
-        }
-        4 => {
-            damage(rng, &mut second);
-            ("damaged second", [first, second])
-        }
-        _ => {
-            let mut files = [first, second];
-            files.iter_mut().for_each(|bytes| damage(rng, bytes));
-            ("both damaged", files)
-        }
-    }
 }
 
 #[test]

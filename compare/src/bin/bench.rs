@@ -1,11 +1,13 @@
 //! `bench [SYMBOLS [NAME]]`: time per call of the proved code next to the second implementation's, on the
-//! same files: the reading, and for accepted proofs (w) and derivations (x) the whole check. At most SYMBOLS symbols
-//! where names are measured; only shapes with NAME in their name.
+//! same files: the reading, and for accepted proofs (w) and derivations (x) the whole check; then the proved code's check,
+//! translation and check of the derivation, of the accepted proofs. At most SYMBOLS symbols where names are measured; only
+//! shapes with NAME in their name.
 
 use compare::shapes::derivations::derivations;
 use compare::shapes::walks::walks;
 use compare::shapes::{shapes, Shape};
 use compare::threads::in_thread;
+use compare::translation::{room, translated};
 use compare::{desk, Asked};
 use second::reader::Second;
 use second::Answer;
@@ -19,8 +21,6 @@ const ENOUGH: Duration = Duration::from_secs(3);
 const SLOW_READING: Duration = Duration::from_secs(1);
 const SLOW_CHECK: Duration = Duration::from_secs(2);
 const USUAL_SYMBOLS: u32 = 4_000;
-
-type Answering = fn(Asked, &[u8], &[u8]) -> Answer;
 
 fn main() {
     let mut arguments = std::env::args().skip(1);
@@ -54,9 +54,18 @@ fn main() {
         println!("{}", check_row(&shape, &times));
         slow.extend((times.proved > SLOW_CHECK).then_some(shape.name));
     }
+    println!("{TRANSLATION_HEAD}");
+    for shape in kept(walks()) {
+        let translation = in_thread(|| measure_translation(&shape));
+        println!("{}", translation_row(&shape, &translation));
+        slow.extend((translation.time > SLOW_CHECK).then_some(shape.name));
+    }
     match slow.is_empty() {
-        true => println!("no reading over 1 s, no check over 2 s"),
-        false => println!("over 1 s (reading) or 2 s (check): {}", slow.join("; ")),
+        true => println!("no reading over 1 s, no check or translation over 2 s"),
+        false => println!(
+            "over 1 s (reading) or 2 s (check, translation): {}",
+            slow.join("; ")
+        ),
     }
 }
 
@@ -78,6 +87,9 @@ const READING_HEAD: &str =
     "reading                                              records   proved ms   second ms proved ns second ns  answer";
 const CHECK_HEAD: &str =
     "check                                                records  nodes   proved ms   second ms nodes a second  ratio";
+
+const TRANSLATION_HEAD: &str =
+    "translation                                            proof derivation    check ms translation ms derivation's check ms  bytes a byte";
 
 fn reading_row(shape: &Shape, times: &Times) -> String {
     let records = shape.records();
@@ -107,6 +119,21 @@ fn check_row(shape: &Shape, times: &Times) -> String {
     )
 }
 
+/// The records of the proof and of the derivation, headers counted, and how many bytes the derivation has for each of the proof's.
+fn translation_row(shape: &Shape, translation: &Translation) -> String {
+    let (proof, derivation) = (shape.second.len(), translation.bytes);
+    format!(
+        "{:<52} {:>7} {:>10} {:>11.3} {:>14.3} {:>21.3} {:>13.1}",
+        shape.name,
+        proof / 16,
+        derivation / 16,
+        milliseconds(translation.check),
+        milliseconds(translation.time),
+        milliseconds(translation.derivation_check),
+        derivation as f64 / proof as f64
+    )
+}
+
 struct Times {
     proved: Duration,
     second: Duration,
@@ -115,8 +142,15 @@ struct Times {
 
 /// The least time of each; both must answer alike.
 fn measure(shape: &Shape, asked: Asked) -> Times {
-    let (proved, answer) = best(shape, asked, desk::answer);
-    let (second, wanted) = best(shape, asked, Asked::second);
+    let files = || (black_box(&shape.obligation), black_box(&shape.second));
+    let (proved, answer) = best(|| {
+        let (obligation, second) = files();
+        desk::answer(asked, obligation, second)
+    });
+    let (second, wanted) = best(|| {
+        let (obligation, second) = files();
+        asked.second(obligation, second)
+    });
     assert_eq!(answer, wanted, "{}", shape.name);
     Times {
         proved,
@@ -125,21 +159,51 @@ fn measure(shape: &Shape, asked: Asked) -> Times {
     }
 }
 
+struct Translation {
+    check: Duration,
+    time: Duration,
+    derivation_check: Duration,
+    bytes: usize,
+}
+
+/// The least time of each; all must accept.
+fn measure_translation(shape: &Shape) -> Translation {
+    let files = || (black_box(&shape.obligation), black_box(&shape.second));
+    let accepted = |call: &mut dyn FnMut() -> Answer| {
+        let (time, answer) = best(call);
+        assert!(answer.is_accepted(), "{}: {answer}", shape.name);
+        time
+    };
+    let derivation = translated(&shape.obligation, &shape.second);
+    let mut buffer = vec![0; room(&shape.second)];
+    Translation {
+        check: accepted(&mut || {
+            let (obligation, proof) = files();
+            desk::answer(Asked::CheckProof, obligation, proof)
+        }),
+        time: accepted(&mut || {
+            let (obligation, proof) = files();
+            desk::translate(obligation, proof, black_box(&mut buffer)).0
+        }),
+        derivation_check: accepted(&mut || {
+            let (obligation, _) = files();
+            desk::answer(Asked::CheckDerivation, obligation, black_box(&derivation))
+        }),
+        bytes: derivation.len(),
+    }
+}
+
 fn milliseconds(time: Duration) -> f64 {
     time.as_secs_f64() * 1_000.0
 }
 
-fn best(shape: &Shape, asked: Asked, answering: Answering) -> (Duration, Answer) {
+fn best(mut call: impl FnMut() -> Answer) -> (Duration, Answer) {
     let start = Instant::now();
     let mut rounds = Vec::new();
     let mut answer = Answer::accepted(0);
     while rounds.len() < ROUNDS && start.elapsed() < ENOUGH {
         let round = Instant::now();
-        answer = answering(
-            asked,
-            black_box(&shape.obligation),
-            black_box(&shape.second),
-        );
+        answer = call();
         rounds.push(round.elapsed());
     }
     (rounds.into_iter().min().unwrap_or_default(), answer)

@@ -5,31 +5,43 @@ use second::kinds::*;
 use second::reader::Second;
 
 /// Members of a sequent, the hypotheses ⊥ and one other and the negated goal counted.
-const MOST_MEMBERS: u32 = 1_024;
+pub(super) const MOST_MEMBERS: u32 = 1_024;
 const FIRST_MEMBERS: u32 = 3;
 
 /// A proof under a branch: its root so far, to be named by the next node.
-struct Branch {
-    sheet: Sheet,
-    root: u32,
-    members: u32,
+pub(super) struct Branch {
+    pub(super) sheet: Sheet,
+    pub(super) root: u32,
+    pub(super) members: u32,
 }
 
 impl Branch {
     /// Closes by ⊥, which is a hypothesis beside `other`.
-    fn new(mut sheet: Sheet, other: u32) -> Branch {
-        sheet.head = sheet.w.chain(&[sheet.bottom, other]);
+    pub(super) fn new(sheet: Sheet, other: u32) -> Branch {
+        let hypotheses = [sheet.bottom, other];
+        Branch::closed_by(sheet, &hypotheses, 32, &[])
+    }
+
+    /// Closes by a rule without premises, given the hypotheses and the rule's parts.
+    pub(super) fn closed_by(
+        mut sheet: Sheet,
+        hypotheses: &[u32],
+        rule: u32,
+        parts: &[u32],
+    ) -> Branch {
+        sheet.head = sheet.w.chain(hypotheses);
         sheet.end_obligation();
-        let root = sheet.w.push(32, 0, 0, 0);
+        let parts = sheet.w.chain(parts);
+        let root = sheet.w.push(rule, parts, 0, 0);
         Branch {
             sheet,
             root,
-            members: FIRST_MEMBERS,
+            members: hypotheses.len() as u32 + 1,
         }
     }
 
     /// A node before the branch, whose last premise it is; others are closed by ⊥.
-    fn node(&mut self, rule: u32, parts: u32, premises: u32, added: u32) {
+    pub(super) fn node(&mut self, rule: u32, parts: u32, premises: u32, added: u32) {
         let closing: Vec<u32> = (1..premises)
             .map(|_| self.sheet.w.push(32, 0, 0, 0))
             .collect();
@@ -37,7 +49,7 @@ impl Branch {
     }
 
     /// A node before the branch, whose last premise it is, the nodes given being the others.
-    fn node_beside(&mut self, rule: u32, parts: u32, others: &[u32], added: u32) {
+    pub(super) fn node_beside(&mut self, rule: u32, parts: u32, others: &[u32], added: u32) {
         let w = &mut self.sheet.w;
         let mut chain = w.push(LINK, self.root, 0, 0);
         for &other in others.iter().rev() {
@@ -48,7 +60,7 @@ impl Branch {
     }
 
     /// There is room for a node of so many records that adds so many members.
-    fn has_room(&self, records: u32, added: u32) -> bool {
+    pub(super) fn has_room(&self, records: u32, added: u32) -> bool {
         self.members + added <= MOST_MEMBERS && self.sheet.is_before(self.sheet.end(records))
     }
 
@@ -224,7 +236,7 @@ fn equalities() -> Shape {
 }
 
 /// A function of two arguments and the chain of its applications' own type.
-fn binary(sheet: &mut Sheet) -> (u32, u32) {
+pub(super) fn binary(sheet: &mut Sheet) -> (u32, u32) {
     let given = sheet.given;
     let types = sheet.w.chain(&[given, given, given]);
     let name = sheet.w.name(b"f");
