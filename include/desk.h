@@ -34,7 +34,7 @@ uint64_t desk_check_derivation(const uint8_t *obligation, size_t obligation_leng
  * the buffer has under 16 * (1 + 64 * (n + 1)) bytes, n being the proof's records after its header; else acceptance with the
  * proof check's count. 16 * (1 + 64 * 3073) bytes are always enough. On acceptance `*length` is the number of bytes that it has
  * written at the buffer's beginning, which desk_check_derivation accepts beside the same obligation; those after them are
- * unchanged. On refusal `*length` is 0 and the buffer is unchanged. Neither may overlap the other areas. Call it on a stack of 8 MiB. */
+ * unchanged. On refusal `*length` is 0 and the buffer is unchanged. Neither may overlap the other areas. Call it on a stack of at least 3 MiB. */
 uint64_t desk_translate(const uint8_t *obligation, size_t obligation_length, const uint8_t *proof, size_t proof_length,
                         uint8_t *buffer, size_t buffer_length, uint64_t *length);
 
