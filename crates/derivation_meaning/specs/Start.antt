@@ -21,6 +21,7 @@ use Rattle.derivation_rules.specs.Erase.{⌊_⌋, bareTree}
 use Rattle.derivation_rules.specs.Check.{bareHypotheses, bareGoal}
 use Rattle.derivation_rules.specs.StartLaws.{bare-hypotheses}
 use Rattle.derivation_meaning.specs.Formulas.{Formula, OfLanguage}
+use Rattle.derivation_meaning.specs.Derivable.{ClosedFormula}
 use Rattle.derivation_meaning.specs.EraseLaws.{indices-erase}
 use Rattle.derivation_meaning.specs.Formed.{tree-kind, of-language, formula-record, hypothesis-of}
 
@@ -40,24 +41,22 @@ module _ (mode : ℕ) (ob second : List ℕ) (r : ReadObligation ob) (s : ReadSe
   files-formed = of-language mode rd (header-kind ob second r) (lastOf ob second) (pair-sound mode ob second r s) past
 
   -- each hypothesis is a closed formula
-  abbrev Formed : Tree → Type 0
-  Formed t = Formula rd t × NoIndex t
-
-  each-formed : (is : List ℕ) → every hypothesisFits (map (tree rd) is) ≡ true → Every Formed (map (bareTree rd) is)
+  each-formed : (is : List ℕ) → every hypothesisFits (map (tree rd) is) ≡ true → Every (ClosedFormula rd) (map (bareTree rd) is)
   unfolding bareTree
-  each-formed [] h = every-0 Formed
+  each-formed [] h = every-0 (ClosedFormula rd)
   each-formed (i ∷ is) h =
       let head = every-head hypothesisFits (tree rd i) (map (tree rd) is) h in
       let p = hypothesis-parts (tree rd i) (head .0) in
       let f = hypothesis-of mode rd (header-kind ob second r) (lastOf ob second) (pair-sound mode ob second r s) past i (p .0) in
-      every-more Formed (bareTree rd i) (map (bareTree rd) is) (f, indices-erase (indices-in 0 (tree rd i) (p .1))) (each-formed is (head .1))
+      every-more (ClosedFormula rd) (bareTree rd i) (map (bareTree rd) is)
+      (record { formula = f; closed = indices-erase (indices-in 0 (tree rd i) (p .1)) }) (each-formed is (head .1))
 
-  pub hypotheses-formed : Every (λ t. Formula (beside ob second) t × NoIndex t) (bareHypotheses (beside ob second))
+  pub hypotheses-formed : Every (ClosedFormula (beside ob second)) (bareHypotheses (beside ob second))
   unfolding itemTrees
   hypotheses-formed = rw (bare-hypotheses rd) (each-formed (items rd (hypothesisChain rd)) (pair-hypotheses mode ob second r s))
 
   -- and so is the goal
-  pub goal-formed : Formula (beside ob second) (bareGoal (beside ob second)) × NoIndex (bareGoal (beside ob second))
+  pub goal-formed : ClosedFormula (beside ob second) (bareGoal (beside ob second))
   unfolding bareGoal firstOf bareTree
   goal-formed =
       let g : ℕ = negatedGoal rd in
@@ -69,7 +68,7 @@ module _ (mode : ℕ) (ob second : List ℕ) (r : ReadObligation ob) (s : ReadSe
       let f = formula-record mode rd (header-kind ob second r) (lastOf ob second) (pair-sound mode ob second r s) past (rd g 1) class-5 in
       let closed : NoIndex (tree rd g) = indices-in 0 (tree rd g) (closed-parts (tree rd g) (pair-goal-closed mode ob second r s) .0) in
       let is : bareGoal rd ≡ ⌊ tree rd (rd g 1) ⌋ = ap (λ (t : Tree). ⌊ firstOf t ⌋) e in
-      (subst (Formula rd) (sym is) f, subst NoIndex (sym is) (indices-erase (under-not (subst NoIndex e closed))))
+      record { formula = subst (Formula rd) (sym is) f; closed = subst NoIndex (sym is) (indices-erase (under-not (subst NoIndex e closed))) }
 
   -- The start of a derivation beside its obligation is that of the obligation by itself.
 

@@ -1,15 +1,14 @@
 -- What is proved of the derivation check, for any two byte lists as obligation and derivation; the proofs are in Theorems.
 use Prim.Native.Nat.{ℕ}
 use mathlib.Core.Path.{_≡_}
-use mathlib.Core.List.{List, map}
+use mathlib.Core.List.{List}
 use mathlib.Core.Logic.{_↔_}
 use Rattle.reader.specs.Answers.{accepted}
-use Rattle.reader.specs.Places.{hypotheses, goal, rootOf}
-use Rattle.reader_laws.specs.File.{alone, beside, ReadObligation, ReadSecond}
-use Rattle.derivation_rules.specs.Erase.{⌊_⌋}
+use Rattle.reader.specs.Places.{rootOf}
+use Rattle.reader_laws.specs.File.{beside, ReadObligation, ReadSecond}
 use Rattle.derivation_rules.specs.Check.{bareHypotheses, bareGoal, derivationAnswer}
 use Rattle.derivation_meaning.specs.Derives.{Derives}
-use Rattle.derivation_meaning.specs.Derivable.{_∣_⊢B_}
+use Rattle.derivation_meaning.specs.Derivable.{DerivedByB}
 
 -- The root node of the derivation, at depth 1, derives the start, the goal from the hypotheses, types removed, with k nodes.
 abbrev pub RootDerives : List ℕ → List ℕ → ℕ → Type 0
@@ -28,5 +27,4 @@ DerivationAccepted = (ob dv : List ℕ) → derivationAnswer ob dv .refusal ≡ 
 -- Where the check accepts, the obligation's own goal is derived by the B rules from the obligation's own hypotheses, types removed, over the
 -- symbols of obligation and derivation.
 abbrev pub DerivationB : Type 0
-DerivationB =
-    (ob dv : List ℕ) (k : ℕ) → derivationAnswer ob dv ≡ accepted k → beside ob dv ∣ map ⌊_⌋ (hypotheses (alone ob)) ⊢B ⌊ goal (alone ob) ⌋
+DerivationB = (ob dv : List ℕ) (k : ℕ) → derivationAnswer ob dv ≡ accepted k → DerivedByB ob dv

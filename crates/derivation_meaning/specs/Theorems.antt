@@ -16,11 +16,11 @@ use Rattle.reader_laws.specs.Pair.{header-kind, pair-hypotheses-limit}
 use Rattle.derivation_rules.specs.Erase.{⌊_⌋, bareTree}
 use Rattle.derivation_rules.specs.Check.{bareHypotheses, bareGoal, startState, derivationWalk, derivationAnswer}
 use Rattle.derivation_rules.specs.StartLaws.{bare-hypotheses}
-use Rattle.derivation_meaning.specs.Derivable.{_∣_⊢B_}
+use Rattle.derivation_meaning.specs.Derivable.{Sequent, Derivable, _∣_⊢B_, DerivedByB}
 use Rattle.derivation_meaning.specs.Statements.{RootDerives, DerivationMeans, DerivationAccepted, DerivationB}
 use Rattle.derivation_meaning.specs.Plain.{goal-plain}
 use Rattle.derivation_meaning.specs.DerivableLaws.{derives-B}
-use Rattle.derivation_meaning.specs.Start.{files-formed, hypotheses-alone, goal-alone}
+use Rattle.derivation_meaning.specs.Start.{files-formed, hypotheses-formed, goal-formed, hypotheses-alone, goal-alone}
 use Rattle.derivation_meaning.specs.WalkMeans.{walk-derives, derives-walk, accepts}
 
 module _ (ob dv : List ℕ) where
@@ -75,12 +75,16 @@ module _ (ob dv : List ℕ) where
       ∙ derives-walk rd (header-kind ob dv r) p 0 ∙ ap (λ (n : ℕ). accepted n) more-zero
 
   -- the start of the pair is the obligation's own
-  accepted-B : (k : ℕ) → derivationAnswer ob dv ≡ accepted k → rd ∣ map ⌊_⌋ (hypotheses (alone ob)) ⊢B ⌊ goal (alone ob) ⌋
+  accepted-B : (k : ℕ) → derivationAnswer ob dv ≡ accepted k → DerivedByB ob dv
   accepted-B k h =
       let p = accepted-derives k h in
-      let derived : rd ∣ bareHypotheses rd ⊢B bareGoal rd = derives-B (files-formed 2 ob dv (p .0) (p .1)) (p .2) in
-      subst (λ (P : Tree). rd ∣ map ⌊_⌋ (hypotheses (alone ob)) ⊢B P) (goal-alone 2 ob dv (p .0) (p .1))
-      (subst (λ (Γ : List Tree). rd ∣ Γ ⊢B bareGoal rd) (hypotheses-alone 2 ob dv (p .0) (p .1)) derived)
+      let r = p .0 in
+      let s = p .1 in
+      let start : Sequent rd (bareHypotheses rd) (bareGoal rd) = record { members = hypotheses-formed 2 ob dv r s; goal = goal-formed 2 ob dv r s } in
+      let derived : rd ∣ bareHypotheses rd ⊢B bareGoal rd = derives-B (files-formed 2 ob dv r s) (p .2) (start .members) (start .goal) in
+      let own : (C : List Tree → Tree → Type 0) → C (bareHypotheses rd) (bareGoal rd) → C (map ⌊_⌋ (hypotheses (alone ob))) ⌊ goal (alone ob) ⌋ =
+      λ C c. subst (C (map ⌊_⌋ (hypotheses (alone ob)))) (goal-alone 2 ob dv r s) (subst (λ Γ. C Γ (bareGoal rd)) (hypotheses-alone 2 ob dv r s) c) in
+      record { start = own (Sequent rd) start; derived = own (Derivable rd) derived }
 
 pub derivation-means : DerivationMeans
 derivation-means ob dv k = (accepted-derives ob dv k, λ p. derives-accepted ob dv k (p .0) (p .1) (p .2))

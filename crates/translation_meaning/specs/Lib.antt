@@ -1,5 +1,5 @@
-pub mod Statements
 pub mod Translates
+pub mod Statements
 pub mod Accepted
 pub mod Premises
 pub mod Theorems

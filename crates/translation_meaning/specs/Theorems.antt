@@ -3,9 +3,10 @@ use Prim.Native.Nat.{ℕ, zero, suc, _+_, _-_, _<_, _≤_}
 use mathlib.Core.Path.{_≡_, refl, sym, ap, subst, _∙_}
 use mathlib.Core.List.{List, [], _∷_, map}
 use mathlib.Core.Bool.{Bool, true, false}
-use lib.ListN.{length, length-map, length-append}
+use lib.ListN.{length, length-map, length-append, take}
 use native.Mathlib.Omega.{arith}
-use borrow.Author.Tests.{lt-ltb}
+use borrow.Author.Tests.{lt-ltb, le-ltb}
+use Rattle.reader.specs.declared.Answer.{Answer}
 use Rattle.reader.specs.Words.{Reader}
 use Rattle.reader.specs.Tests.{ifEq, ifLt, between}
 use Rattle.reader.specs.Kinds.{isRule}
@@ -14,6 +15,7 @@ use Rattle.reader.specs.Chains.{linked, items, itemTrees}
 use Rattle.reader.specs.Answers.{accepted}
 use Rattle.reader.specs.Places.{hypothesisChain, hypotheses, goal, countOf, rootOf, namings}
 use Rattle.reader.specs.Members.{_▹_}
+use Rattle.reader.specs.Walk.{andThen}
 use Rattle.reader_laws.specs.Scan.{when-true, when-false}
 use Rattle.reader_laws.specs.File.{alone, beside, ReadSecond, hypotheses-limit}
 use Rattle.reader_laws.specs.Pair.{header-kind, kind-or-rule, rule-once}
@@ -27,6 +29,7 @@ use Rattle.derivation_meaning.specs.Start.{hypotheses-alone, goal-alone}
 use Rattle.derivation_meaning.specs.Theorems.{derivation-means, derivation-B}
 use Rattle.translation_rules.specs.Output.{lineWord, copied, endOf, startOf, written, lettersOfStart}
 use Rattle.translation_rules.specs.Bytes.{derivationBytes}
+use Rattle.translation_rules.specs.Check.{roomFor, translationAnswer}
 use Rattle.translation_addresses.specs.Addresses.{base-after, base-start, end-start}
 use Rattle.translation_copies.specs.Outputs.{output-bottom}
 use Rattle.translation_blocks.specs.Quantified.{block-start}
@@ -34,7 +37,7 @@ use Rattle.translation_derives.specs.Members.{one-more}
 use Rattle.translation_derives.specs.Nodes.{derives}
 use Rattle.translation_named.specs.Once.{named-once}
 use Rattle.translation_records.specs.Letters.{premise-below}
-use Rattle.translation_meaning.specs.Statements.{TranslationAccepted, TranslationB}
+use Rattle.translation_meaning.specs.Statements.{TranslationAccepted, TranslationB, TranslationMeans}
 use Rattle.translation_meaning.specs.Accepted.{obligation-read, proof-read, root-proves, sound, range, root-rule, formed, proved, tr, count-is, root-is, length-fits, counts-fit, output-all}
 use Rattle.translation_meaning.specs.Premises.{proves-premised}
 
@@ -165,3 +168,14 @@ translation-accepted ob pf k h = translates ob pf k h
 
 pub translation-B : TranslationB
 translation-B ob pf k h = let p = translates ob pf k h in derivation-B ob (derivationBytes ob pf) (p .0) (p .1)
+
+-- the proof check accepts, and there is room
+room-answer : (ob pf : List ℕ) (size k : ℕ) → proofAnswer ob pf ≡ accepted k → roomFor (countOf pf) ≤ size → translationAnswer ob pf size ≡ accepted k
+unfolding translationAnswer andThen ifLt
+room-answer ob pf size k h room = simp (translationAnswer, andThen, h, ifLt, le-ltb size (roomFor (countOf pf)) room) refl
+
+pub translation-means : TranslationMeans
+translation-means ob pf before after a len k t h room =
+    let same : a ≡ accepted k = t .answers ∙ room-answer ob pf (length before) k h room in
+    let p = t .derived (ap (λ (x : Answer). x .refusal) same) in
+    record { same = same; count = p .0; checked = p .1; derivedByB = derivation-B ob (take len after) (p .0) (p .1) }
