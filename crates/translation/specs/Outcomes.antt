@@ -24,7 +24,7 @@ use Rattle.translation_meaning.specs.Translates.{Translates}
 use Rattle.translation_meaning.specs.Accepted.{obligation-few, proof-few, long, range, root-rule, bytes-are}
 use Rattle.translation_meaning.specs.Theorems.{translation-accepted}
 use Rattle.translation_write.specs.Put.{put}
-use Rattle.translation_write.specs.Derivation.{Ready}
+use Rattle.translation_file.specs.Derivation.{Ready}
 
 module _ (ob pf before : List ℕ) (a : Answer) (ea : a ≡ proofAnswer ob pf) where
   -- the proof check's refusal

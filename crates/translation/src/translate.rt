@@ -3,7 +3,7 @@ use crate::Translation;
 use proof_check::check::check_proof;
 use reader::Answer;
 use reader::words;
-use translation_write::derivation::put_derivation;
+use translation_file::derivation::put_derivation;
 ghost use Rattle.translation_meaning.specs.Translates.{Translates};
 
 // Translates an accepted proof of the obligation into a derivation, written at the buffer's start.

@@ -12,7 +12,7 @@ use Rattle.translation_rules.specs.Templates.{Line, template}
 use Rattle.translation_rules.specs.Output.{Letters, noLine}
 use Rattle.translation_rules.specs.Bytes.{bytes16, lineBytes, linesBytes}
 use Rattle.translation_write.specs.Put.{put, put-nothing, put-put}
-use Rattle.translation_write.specs.Codes.{lineOf}
+use Rattle.translation_lines.specs.Codes.{lineOf}
 use Rattle.translation_write.specs.Values.{lettersIn, valueIn}
 
 -- The block of node i that starts at record `base` has its place in the buffer, where record m + 1 is the first after the header.

@@ -1,8 +1,6 @@
 pub mod Put
-pub mod Codes
 pub mod Values
 pub mod Blocks
 pub mod Ends
 pub mod Nodes
 pub mod Copies
-pub mod Derivation

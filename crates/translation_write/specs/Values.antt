@@ -14,7 +14,7 @@ use Rattle.reader.specs.Chains.{parts, premises}
 use Rattle.reader_chains.specs.Chains.{itemAt, item-items}
 use Rattle.translation_rules.specs.Templates.{Cell, none, part, inside, deeper, typeInside, bottom, own, conclusion}
 use Rattle.translation_rules.specs.Output.{typeRecord, Letters, value}
-use Rattle.translation_write.specs.Codes.{cellOf}
+use Rattle.translation_lines.specs.Codes.{cellOf}
 
 -- the letters of the block of node i that starts at `base`
 abbrev pub lettersIn : Reader → List ℕ → ℕ → ℕ → Letters

@@ -1,10 +1,10 @@
 // Blocks: the records that stand for one rule node of the proof.
-use crate::lines;
 use crate::records;
 use crate::values;
 use crate::values::Block;
 use reader::kinds;
 use reader::words;
+use translation_lines::lines;
 ghost use mathlib.Core.Path.{_≡_};
 ghost use Prim.Native.Nat.{_+_, _*_, _-_, _<_, _≤_};
 ghost use lib.ListN.{length};

@@ -1,7 +1,7 @@
 // Where the blocks of the proof's records start and end.
-use crate::lines;
 use reader::kinds;
 use reader::words;
+use translation_lines::lines;
 ghost use mathlib.Core.Path.{_≡_};
 ghost use Prim.Native.Nat.{_+_, _<_};
 ghost use lib.ListN.{length};

@@ -1,7 +1,7 @@
 use native.Mathlib.Omega.{arith}
-use Rattle.translation_write.specs.Codes.{first-rule, last-rule, lines-many}
-use Rattle.translation_write.proofs.lines.lines_of.Statement.{statement}
-use Rattle.translation_write.proofs.lines.lines_of.Tie as tie
+use Rattle.translation_lines.specs.Codes.{first-rule, last-rule, lines-many}
+use Rattle.translation_lines.proofs.lines.lines_of.Statement.{statement}
+use Rattle.translation_lines.proofs.lines.lines_of.Tie as tie
 
 pub lines-of-spec : {M : Type 1} → statement M
 lines-of-spec = tie.close (tie.spec

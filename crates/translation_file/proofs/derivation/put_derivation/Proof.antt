@@ -1,8 +1,8 @@
 use borrow.Author.Needs.{needs}
 use native.Mathlib.Omega.{arith}
-use Rattle.translation_write.specs.Derivation.{room-ready, start-fits, file-is, bytes-many, written-is}
-use Rattle.translation_write.proofs.derivation.put_derivation.Statement.{statement}
-use Rattle.translation_write.proofs.derivation.put_derivation.Tie as tie
+use Rattle.translation_file.specs.Derivation.{room-ready, start-fits, file-is, bytes-many, written-is}
+use Rattle.translation_file.proofs.derivation.put_derivation.Statement.{statement}
+use Rattle.translation_file.proofs.derivation.put_derivation.Tie as tie
 
 pub put-derivation-spec : {M : Type 1} → statement M
 put-derivation-spec = tie.close (tie.spec

@@ -6,7 +6,7 @@ ghost use lib.ListN.{getD, length};
 ghost use Rattle.reader.specs.Kinds.{modes, isRule};
 ghost use Rattle.translation_rules.specs.Templates.{template};
 ghost use Rattle.translation_rules.specs.Output.{noLine};
-ghost use Rattle.translation_write.specs.Codes.{lineOf};
+ghost use Rattle.translation_lines.specs.Codes.{lineOf};
 
 // Where the lines of a rule start, and how many there are, by kind from 32 on.
 const STARTS: [usize; 15] = [0, 1, 8, 14, 20, 37, 47, 57, 72, 88, 102, 123, 141, 150, 155];

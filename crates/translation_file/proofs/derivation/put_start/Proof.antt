@@ -1,7 +1,7 @@
 use borrow.Author.Needs.{needs}
-use Rattle.translation_write.specs.Derivation.{start-put}
-use Rattle.translation_write.proofs.derivation.put_start.Statement.{statement}
-use Rattle.translation_write.proofs.derivation.put_start.Tie as tie
+use Rattle.translation_file.specs.Derivation.{start-put}
+use Rattle.translation_file.proofs.derivation.put_start.Statement.{statement}
+use Rattle.translation_file.proofs.derivation.put_start.Tie as tie
 
 pub put-start-spec : {M : Type 1} → statement M
 put-start-spec = tie.close (tie.spec

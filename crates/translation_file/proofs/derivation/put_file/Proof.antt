@@ -1,8 +1,8 @@
 use borrow.Author.Needs.{needs}
 use native.Mathlib.Omega.{arith}
-use Rattle.translation_write.specs.Derivation.{start-fits, file-put}
-use Rattle.translation_write.proofs.derivation.put_file.Statement.{statement}
-use Rattle.translation_write.proofs.derivation.put_file.Tie as tie
+use Rattle.translation_file.specs.Derivation.{start-fits, file-put}
+use Rattle.translation_file.proofs.derivation.put_file.Statement.{statement}
+use Rattle.translation_file.proofs.derivation.put_file.Tie as tie
 
 pub put-file-spec : {M : Type 1} → statement M
 put-file-spec = tie.close (tie.spec

@@ -1,7 +1,7 @@
 use native.Mathlib.Omega.{arith}
-use Rattle.translation_write.specs.Codes.{first-rule, last-rule, line-within, line-is}
-use Rattle.translation_write.proofs.lines.line_at.Statement.{statement}
-use Rattle.translation_write.proofs.lines.line_at.Tie as tie
+use Rattle.translation_lines.specs.Codes.{first-rule, last-rule, line-within, line-is}
+use Rattle.translation_lines.proofs.lines.line_at.Statement.{statement}
+use Rattle.translation_lines.proofs.lines.line_at.Tie as tie
 
 pub line-at-spec : {M : Type 1} → statement M
 line-at-spec = tie.close (tie.spec

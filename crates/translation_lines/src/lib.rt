@@ -1,0 +1,2 @@
+// The templates of the translation as numbers.
+pub mod lines;
