@@ -1,5 +1,6 @@
 pub mod Signs
 pub mod Proves
+pub mod TypedTrees
 pub mod LL
 pub mod Table
 pub mod Spelling
@@ -10,11 +11,13 @@ pub mod Statements
 pub mod Forms
 pub mod Rows
 pub mod Accepts
+pub mod TypedTreeLaws
 pub mod LLLaws
 pub mod TableLaws
 pub mod SpellingLaws
 pub mod TypedLaws
 pub mod RecordLaws
+pub mod TypedStart
 pub mod FileLaws
 pub mod AnswerLaws
 pub mod StopLaws

@@ -11,6 +11,7 @@ use Rattle.reader.specs.Places.{hypotheses, goal, rootOf, reading}
 use Rattle.reader_laws.specs.File.{alone, beside}
 use Rattle.proof_rules.specs.Check.{startSequent, proofAnswer}
 use Rattle.proof_meaning.specs.Proves.{Proves}
+use Rattle.proof_meaning.specs.TypedTrees.{TypedRecords}
 use Rattle.proof_meaning.specs.LL.{LL}
 use Rattle.proof_meaning.specs.WellFormed.{WellFormed}
 use Rattle.proof_meaning.specs.Refused.{Refused}
@@ -27,9 +28,14 @@ ProofMeans = (ob pf : List ℕ) (k : ℕ) → (proofAnswer ob pf ≡ accepted k)
 abbrev pub ProofAccepted : Type 0
 ProofAccepted = (ob pf : List ℕ) → proofAnswer ob pf .refusal ≡ 0 → (k : ℕ) × (proofAnswer ob pf ≡ accepted k)
 
--- Where the answer is 0, 0, 0, k, the calculus of figure 3 derives ⊥ from the obligation's hypotheses and its negated goal.
+-- In a well-formed pair each record that is a type, a term, a formula or a polymorphic formula is well typed.
+abbrev pub ProofTyped : Type 0
+ProofTyped = (ob pf : List ℕ) → WellFormed ob pf → TypedRecords (beside ob pf)
+
+-- Where the answer is 0, 0, 0, k, the calculus of figure 3, over the symbols of obligation and proof, derives ⊥ from the obligation's hypotheses and its
+-- negated goal; by `LL` these are a sequent of closed well-typed formulas, and so is each sequent of the derivation.
 abbrev pub ProofLL : Type 0
-ProofLL = (ob pf : List ℕ) (k : ℕ) → proofAnswer ob pf ≡ accepted k → LL (hypotheses (alone ob) ▹ ¬ᵗ (goal (alone ob)))
+ProofLL = (ob pf : List ℕ) (k : ℕ) → proofAnswer ob pf ≡ accepted k → LL (beside ob pf) (hypotheses (alone ob) ▹ ¬ᵗ (goal (alone ob)))
 
 -- The places before the walk, refusals 1 to 12, refuse nothing exactly where the pair is well formed.
 abbrev pub ProofRead : Type 0

@@ -18,9 +18,10 @@ use Rattle.proof_rules.specs.Check.{startSequent, proofWalk, proofAnswer}
 use Rattle.proof_meaning.specs.LL.{LL}
 use Rattle.proof_meaning.specs.WellFormed.{WellFormed}
 use Rattle.proof_meaning.specs.Refused.{Refused}
-use Rattle.proof_meaning.specs.Statements.{RootProves, ProofMeans, ProofAccepted, ProofLL, ProofRead, ProofRefused, ProofAcceptedOrRefused}
+use Rattle.proof_meaning.specs.Statements.{RootProves, ProofMeans, ProofAccepted, ProofTyped, ProofLL, ProofRead, ProofRefused, ProofAcceptedOrRefused}
 use Rattle.proof_meaning.specs.Accepts.{walk-counts}
 use Rattle.proof_meaning.specs.LLLaws.{proves-LL}
+use Rattle.proof_meaning.specs.TypedStart.{files-typed, start-sequent}
 use Rattle.proof_meaning.specs.FileLaws.{well-formed-in, well-formed-out}
 use Rattle.proof_meaning.specs.AnswerLaws.{head, read-and-walked, answer-is, from-none, accepted-means, means-accepted}
 use Rattle.proof_meaning.specs.StopLaws.{stops-in}
@@ -52,11 +53,17 @@ start-is ob pf r t =
     ap (λ (Γ : List Tree). Γ ▹ tree (beside ob pf) (negatedGoal (beside ob pf))) same
     ∙ ap (λ (P : Tree). hypotheses (alone ob) ▹ P) (here ∙ under)
 
+pub proof-typed : ProofTyped
+proof-typed ob pf w =
+    let r = reading-parts 1 ob pf (ap (λ (a : Answer). a .refusal) (well-formed-out ob pf w)) in
+    files-typed ob pf (r .0) (r .1)
+
 pub proof-LL : ProofLL
 proof-LL ob pf k h =
     let p = read-and-walked ob pf (ap (λ (a : Answer). a .refusal) h) in
     let r = reading-parts 1 ob pf (ap (λ (a : Answer). a .refusal) (p .0)) in
-    subst LL (start-is ob pf (r .0) (r .1)) (proves-LL (accepted-means ob pf k h .1))
+    subst (LL (beside ob pf)) (start-is ob pf (r .0) (r .1))
+    (proves-LL (files-typed ob pf (r .0) (r .1)) (accepted-means ob pf k h .1) (start-sequent ob pf (r .0) (r .1)))
 
 pub proof-accepted-or-refused : ProofAcceptedOrRefused
 unfolding proofWalk
