@@ -20,6 +20,11 @@ use Rattle.proof_meaning.specs.LL.{ClosedFormula, Member, Sequent, LL}
 none-in : {A C : Type 0} {x : A} → x ∈ [] → C
 none-in m = elim m [ ]
 
+-- what holds of each member of Γ and of P
+pub every-last : (Q : Tree → Type 0) (Γ : List Tree) (P : Tree) → Every Q Γ → Q P → Every Q (Γ ▹ P)
+every-last Q [] P h p = every-more Q P [] p (every-0 Q)
+every-last Q (t ∷ Γ) P h p = every-more Q t (Γ ▹ P) (h t (here refl)) (every-last Q Γ P (λ u m. h u (there m)) p)
+
 -- Closedness of a formula's parts.
 
 under-not : {P : Tree} → Closed (¬ᵗ P) → Closed P
@@ -44,7 +49,7 @@ equation-closed c d = record {
 module _ {rd : Reader} where
   -- Closed formulas from closed formulas.
 
-  negation-inside : {P : Tree} → ClosedFormula rd (¬ᵗ P) → ClosedFormula rd P
+  pub negation-inside : {P : Tree} → ClosedFormula rd (¬ᵗ P) → ClosedFormula rd P
   negation-inside c = record { formula = one (c .formula); closed = under-not (c .closed) }
     where
       one : {P : Tree} → TypedFormula rd (¬ᵗ P) → TypedFormula rd P
@@ -53,7 +58,7 @@ module _ {rd : Reader} where
   negated : {P : Tree} → ClosedFormula rd P → ClosedFormula rd (¬ᵗ P)
   negated c = record { formula = TypedFormula.negation (c .formula); closed = over-not (c .closed) }
 
-  conjunction-inside : {P Q : Tree} → ClosedFormula rd (P ∧ᵗ Q) → ClosedFormula rd P × ClosedFormula rd Q
+  pub conjunction-inside : {P Q : Tree} → ClosedFormula rd (P ∧ᵗ Q) → ClosedFormula rd P × ClosedFormula rd Q
   unfolding binders
   conjunction-inside c = both (c .formula) (c .closed .noIndex) (c .closed .noTypeVariable)
     where
@@ -75,7 +80,7 @@ module _ {rd : Reader} where
 
   -- A member with a sign of its own is a closed formula.
 
-  not-member : {P : Tree} → Member rd (¬ᵗ P) → ClosedFormula rd (¬ᵗ P)
+  pub not-member : {P : Tree} → Member rd (¬ᵗ P) → ClosedFormula rd (¬ᵗ P)
   not-member (Member.formula c) = c
 
   and-member : {P Q : Tree} → Member rd (P ∧ᵗ Q) → ClosedFormula rd (P ∧ᵗ Q)
@@ -86,8 +91,7 @@ module _ {rd : Reader} where
 
   -- Γ and one formula more
   pub and-one : {P : Tree} (Γ : List Tree) → Sequent rd Γ → ClosedFormula rd P → Sequent rd (Γ ▹ P)
-  and-one [] s c = every-more (Member rd) _ [] (Member.formula c) (every-0 (Member rd))
-  and-one (t ∷ Γ) s c = every-more (Member rd) t (Γ ▹ _) (s t (here refl)) (and-one Γ (λ u e. s u (there e)) c)
+  and-one Γ s c = every-last (Member rd) Γ _ s (Member.formula c)
 
 -- a derivation is of a sequent
 pub LL-sequent : {rd : Reader} {Γ : List Tree} → LL rd Γ → Sequent rd Γ

@@ -13,6 +13,7 @@ pub mod Rows
 pub mod Accepts
 pub mod TypedTreeLaws
 pub mod LLLaws
+pub mod LLTraps
 pub mod TableLaws
 pub mod SpellingLaws
 pub mod TypedLaws

@@ -1,13 +1,13 @@
 -- A pair of an obligation and a proof that passed places 1 to 12: its records are well typed, and the start of the proof is a sequent.
 use Prim.Native.Nat.{ℕ, _≤_}
-use mathlib.Core.Path.{_≡_, ap, _∙_}
+use mathlib.Core.Path.{_≡_, ap}
 use mathlib.Core.List.{List, [], _∷_, map}
 use mathlib.Core.Bool.{true}
 use lib.Dec.{eqb}
 use native.Mathlib.Omega.{arith}
 use borrow.Author.Tests.{eqb-true}
 use Rattle.reader.specs.Words.{Reader}
-use Rattle.reader.specs.Tests.{every, ifEq, ifLt}
+use Rattle.reader.specs.Tests.{every, ifLt}
 use Rattle.reader.specs.Kinds.{class}
 use Rattle.reader.specs.Trees.{Tree, tree, kindOf, atomOf}
 use Rattle.reader.specs.Chains.{items, itemTrees}

@@ -1,27 +1,25 @@
 -- Laws of the typed language: what has no type, and that in files without faults each type, term and formula is well typed.
 use Prim.Native.Nat.{ℕ, zero, suc, _<_, _≤_}
 use mathlib.Core.Path.{_≡_, refl, sym, ap, subst, _∙_}
-use mathlib.Core.List.{List, [], _∷_, map}
+use mathlib.Core.List.{List, _∷_, map}
 use mathlib.Core.Bool.{Bool, true, false}
 use mathlib.Core.Logic.{_⊎_, inl, inr}
 use lib.Dec.{eqb, ltb}
-use lib.ListN.{length}
 use native.Mathlib.Omega.{arith}
 use borrow.Author.Tests.{eqb-true, eqb-false, ltb-true, ltb-false}
 use Rattle.reader.specs.Words.{Reader}
 use Rattle.reader.specs.Tests.{every, ifEq, ifLt}
-use Rattle.reader.specs.Kinds.{class, classAt}
-use Rattle.reader.specs.Trees.{Tree, leaf, node, lower, tree, kindOf, firstOf, ⊥ᵗ, ¬ᵗ_, ∀ᵗ, _=ᵗ_, setᵗ, pairᵗ}
+use Rattle.reader.specs.Kinds.{class}
+use Rattle.reader.specs.Trees.{Tree, leaf, node, lower, tree, kindOf, firstOf, ∀ᵗ, _=ᵗ_, setᵗ, pairᵗ}
 use Rattle.reader.specs.Chains.{items, itemTrees}
 use Rattle.reader.specs.Records.{hasClass}
 use Rattle.reader.specs.Typing.{typeOf, signature}
 use Rattle.reader.specs.TreeLaws.{below, tree-zero, tree-step, lower-below, items-zero, items-step}
-use Rattle.reader.specs.Notions.{Every, IsType, IsTerm, IsFormula, IndicesBelow, NoIndex}
+use Rattle.reader.specs.Notions.{IndicesBelow, NoIndex, Bears}
 use Rattle.reader_laws.specs.Scan.{every-head}
 use Rattle.reader_laws.specs.Record.{Sound, class-is, items-are}
 use Rattle.reader_laws.specs.Classes.{type-class, term-class, formula-class, function-class, link-class, class-of-kind}
 use Rattle.reader_laws.specs.Parts
-use Rattle.proof_meaning.specs.Signs.{constantᵗ, forTypesᵗ}
 use Rattle.proof_meaning.specs.Typed.{Typed}
 use Rattle.proof_meaning.specs.TypedTrees.{TypeOver, Types, IsConstant, IsFunction, HasType, Arguments, TypedFormula, PolymorphicFormula, TypedRecords}
 
@@ -60,6 +58,27 @@ type-over (HasType.pair p q) = TypeOver.pair (type-over p) (type-over q)
 type-over (HasType.product p q) = TypeOver.set (TypeOver.pair (set-inside (type-over p)) (set-inside (type-over q)))
 type-over (HasType.powerset p) = TypeOver.set (type-over p)
 type-over (HasType.application f ts x e) = own-type ts
+
+-- What is well typed has the types that paper 01 asks.
+
+pub pair-types : {rd : Reader} {x y own τ : Tree} → HasType rd (node 10 0 x y own) τ → own ≡ pairᵗ (typeOf x) (typeOf y)
+pair-types (HasType.pair p q) = let a = type-carried p in let b = type-carried q in cc
+
+pub product-types : {rd : Reader} {x y own τ : Tree} → HasType rd (node 11 0 x y own) τ →
+    (υ : Tree) × (φ : Tree) × (typeOf x ≡ setᵗ υ) × (typeOf y ≡ setᵗ φ) × (own ≡ setᵗ (pairᵗ υ φ))
+product-types (HasType.product {τ = τ} {υ = υ} p q) = (τ, υ, type-carried p, type-carried q, refl)
+
+pub powerset-types : {rd : Reader} {x own τ : Tree} → HasType rd (node 12 0 x own leaf) τ → (υ : Tree) × (typeOf x ≡ setᵗ υ) × (own ≡ setᵗ (setᵗ υ))
+powerset-types (HasType.powerset {τ = τ} p) = (τ, type-carried p, refl)
+
+pub equation-types : {rd : Reader} {t u : Tree} → TypedFormula rd (t =ᵗ u) → typeOf t ≡ typeOf u
+equation-types (TypedFormula.equation p q) = type-carried p ∙ sym (type-carried q)
+
+pub membership-types : {rd : Reader} {x s : Tree} → TypedFormula rd (node 21 0 x s leaf) → typeOf s ≡ setᵗ (typeOf x)
+membership-types (TypedFormula.membership p q) = let a = type-carried p in let b = type-carried q in cc
+
+pub universal-types : {rd : Reader} {τ B : Tree} → TypedFormula rd (∀ᵗ τ B) → Bears τ 0 B
+universal-types (TypedFormula.universal t f b) = b
 
 -- What has no type.
 
@@ -233,8 +252,7 @@ module _ (mode : ℕ) (rd : Reader) (head : rd 0 0 ≡ 1) (m : ℕ) (all : (j : 
         let is : Types rd (tree rd (rd f 1)) (itemTrees rd (rd f 1)) =
         ih (rd f 1) (omega arith) .types (λ z. sym (class-of-kind rd (rd f 1)) ∙ part .class)
         (items-are rd 3 (rd f 1) (chain .itemsOf (λ z. let given : 1 ≤ rd f 1 = part .given in absurd (omega arith))) (λ z. absurd (omega arith))) in
-        let same : itemTrees rd (rd f 1) ≡ itemTrees rd (lower rd f 1) = ap (itemTrees rd) (sym (part .names)) in
-        (
+        let same : itemTrees rd (rd f 1) ≡ itemTrees rd (lower rd f 1) = ap (itemTrees rd) (sym (part .names)) in (
           Parts.function-tree mode rd f (all f low high) low kind,
           record {
             kind = kind;
