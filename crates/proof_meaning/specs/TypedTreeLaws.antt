@@ -1,5 +1,5 @@
 -- Laws of the typed language: what has no type, and that in files without faults each type, term and formula is well typed.
-use Prim.Native.Nat.{ℕ, zero, suc, _<_, _≤_}
+use Prim.Native.Nat.{ℕ, zero, suc, _+_, _<_, _≤_}
 use mathlib.Core.Path.{_≡_, refl, sym, ap, subst, _∙_}
 use mathlib.Core.List.{List, _∷_, map}
 use mathlib.Core.Bool.{Bool, true, false}
@@ -15,11 +15,13 @@ use Rattle.reader.specs.Chains.{items, itemTrees}
 use Rattle.reader.specs.Records.{hasClass}
 use Rattle.reader.specs.Typing.{typeOf, signature}
 use Rattle.reader.specs.TreeLaws.{below, tree-zero, tree-step, lower-below, items-zero, items-step}
-use Rattle.reader.specs.Notions.{IndicesBelow, NoIndex, Bears}
+use Rattle.reader.specs.Variables.{binders}
+use Rattle.reader.specs.Notions.{IndicesBelow, NoIndex, TypesBelow, Closed, Bears}
 use Rattle.reader_laws.specs.Scan.{every-head}
 use Rattle.reader_laws.specs.Record.{Sound, class-is, items-are}
 use Rattle.reader_laws.specs.Classes.{type-class, term-class, formula-class, function-class, link-class, class-of-kind}
 use Rattle.reader_laws.specs.Parts
+use Rattle.proof_meaning.specs.Signs.{constantᵗ}
 use Rattle.proof_meaning.specs.Typed.{Typed}
 use Rattle.proof_meaning.specs.TypedTrees.{TypeOver, Types, IsConstant, IsFunction, HasType, Arguments, TypedFormula, PolymorphicFormula, TypedRecords}
 
@@ -75,10 +77,30 @@ pub equation-types : {rd : Reader} {t u : Tree} → TypedFormula rd (t =ᵗ u) �
 equation-types (TypedFormula.equation p q) = type-carried p ∙ sym (type-carried q)
 
 pub membership-types : {rd : Reader} {x s : Tree} → TypedFormula rd (node 21 0 x s leaf) → typeOf s ≡ setᵗ (typeOf x)
-membership-types (TypedFormula.membership p q) = let a = type-carried p in let b = type-carried q in cc
+membership-types (TypedFormula.membership p q) = type-carried q ∙ ap setᵗ (sym (type-carried p))
 
 pub universal-types : {rd : Reader} {τ B : Tree} → TypedFormula rd (∀ᵗ τ B) → Bears τ 0 B
 universal-types (TypedFormula.universal t f b) = b
+
+-- Closedness of types and constants.
+
+-- a type has no index
+pub type-indices : {rd : Reader} {τ : Tree} (d : ℕ) → TypeOver rd τ → IndicesBelow d τ
+type-indices d (TypeOver.given e) =
+    IndicesBelow.inside (λ (q : _≡_ {A = ℕ} 3 9). absurd (omega arith)) IndicesBelow.none IndicesBelow.none IndicesBelow.none
+type-indices d (TypeOver.set t) =
+    IndicesBelow.inside (λ (q : _≡_ {A = ℕ} 4 9). absurd (omega arith)) (type-indices d t) IndicesBelow.none IndicesBelow.none
+type-indices d (TypeOver.pair t u) =
+    IndicesBelow.inside (λ (q : _≡_ {A = ℕ} 5 9). absurd (omega arith)) (type-indices d t) (type-indices (d + binders 5) u) IndicesBelow.none
+type-indices d (TypeOver.variable) =
+    IndicesBelow.inside (λ (q : _≡_ {A = ℕ} 6 9). absurd (omega arith)) IndicesBelow.none IndicesBelow.none IndicesBelow.none
+
+-- a constant is closed
+pub constant-closed : {rd : Reader} {c : ℕ} {τ υ : Tree} → HasType rd (constantᵗ c τ) υ → Closed (constantᵗ c τ)
+constant-closed (HasType.constant k) = record {
+  noIndex = IndicesBelow.inside (λ (q : _≡_ {A = ℕ} 7 9). absurd (omega arith)) (type-indices 0 (k .type)) IndicesBelow.none IndicesBelow.none;
+  noTypeVariable = TypesBelow.inside (λ (q : _≡_ {A = ℕ} 7 6). absurd (omega arith)) (k .noVariable) TypesBelow.none TypesBelow.none;
+}
 
 -- What has no type.
 
