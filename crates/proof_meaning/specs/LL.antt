@@ -1,4 +1,5 @@
--- The typed sequent calculus of figure 3 as plain derivability: trees over the symbols of the files, no limit, no record number but the symbols'.
+-- The typed sequent calculus of figure 3 as plain derivability, over well-typed formulas of the files' symbols: no node, no limit on sequents, no record
+-- number but the symbols'.
 use Prim.Native.Nat.{ℕ}
 use mathlib.Core.List.{List}
 use lib.ListN.{length}
@@ -25,7 +26,8 @@ abbrev pub Sequent : Reader → List Tree → Type 0
 Sequent rd Γ = Every (Member rd) Γ
 
 -- Γ ⊢ ⊥ in the calculus, over the symbols of the files that rd reads: "the contraction rule is always applied". Each rule says that its conclusion is a
--- sequent; its premises are sequents by their own rules, so what they add is closed and well typed.
+-- sequent; its premises are sequents by their own rules, so what they add is closed and well typed. The names ∧ and ∀ are words of the language: these two
+-- rules are ∧ᴸ and ∀ᴸ.
 pub data LL (rd : Reader) : List Tree → Type 0 where
   ⊥ : {Γ : List Tree} → Sequent rd Γ → ⊥ᵗ ∈ Γ → LL rd Γ
   ¬⊤ : {Γ : List Tree} → Sequent rd Γ → (¬ᵗ ⊤ᵗ) ∈ Γ → LL rd Γ

@@ -33,7 +33,7 @@ abbrev pub ProofTyped : Type 0
 ProofTyped = (ob pf : List ℕ) → WellFormed ob pf → TypedRecords (beside ob pf)
 
 -- Where the answer is 0, 0, 0, k, the calculus of figure 3, over the symbols of obligation and proof, derives ⊥ from the obligation's hypotheses and its
--- negated goal; by `LL` these are a sequent of closed well-typed formulas, and so is each sequent of the derivation.
+-- negated goal. By `LL` the members of this sequent, and of each sequent of the derivation, are closed well-typed formulas or polymorphic formulas.
 abbrev pub ProofLL : Type 0
 ProofLL = (ob pf : List ℕ) (k : ℕ) → proofAnswer ob pf ≡ accepted k → LL (beside ob pf) (hypotheses (alone ob) ▹ ¬ᵗ (goal (alone ob)))
 
