@@ -1,4 +1,4 @@
-// The C entries: two byte areas in, the answer's four numbers packed in one.
+// The C entries: two byte areas in, the answer's four numbers in the bits of one.
 use derivation_check::check::check_derivation;
 use proof_check::check::check_proof;
 use reader::Answer;
@@ -12,7 +12,7 @@ ghost use Rattle.derivation_rules.specs.Check.{derivationAnswer};
 ghost use lib.ListN.{length as size};
 ghost use Rattle.translation_rules.specs.Check.{translationAnswer};
 ghost use Rattle.translation_meaning.specs.Translates.{Translates};
-ghost use Rattle.favashears.specs.Pack.{pack};
+ghost use Rattle.favashears.specs.Pack.{pack, Unpacks};
 
 // The answer in one number.
 fn pack(a: Answer) -> u64
@@ -31,7 +31,7 @@ fn pack(a: Answer) -> u64
 // The answer to an obligation and a proof.
 #[no_mangle]
 pub extern "C" fn desk_check_proof(obligation: &[u8], proof: &[u8]) -> u64
-    ensures { λ r. ⌜ r ≡ pack (proofAnswer (now (obligation .entry)) (now (proof .entry))) ⌝ }
+    ensures { λ r. ⌜ Unpacks r (proofAnswer (now (obligation .entry)) (now (proof .entry))) ⌝ }
 {
     pack(check_proof(obligation, proof))
 }
@@ -39,7 +39,7 @@ pub extern "C" fn desk_check_proof(obligation: &[u8], proof: &[u8]) -> u64
 // The answer to an obligation and a derivation.
 #[no_mangle]
 pub extern "C" fn desk_check_derivation(obligation: &[u8], derivation: &[u8]) -> u64
-    ensures { λ r. ⌜ r ≡ pack (derivationAnswer (now (obligation .entry)) (now (derivation .entry))) ⌝ }
+    ensures { λ r. ⌜ Unpacks r (derivationAnswer (now (obligation .entry)) (now (derivation .entry))) ⌝ }
 {
     pack(check_derivation(obligation, derivation))
 }
@@ -52,7 +52,7 @@ pub extern "C" fn desk_translate(
     buffer: &mut [u8],
     length: &mut u64,
 ) -> u64
-    ensures { λ r. ⌜ r ≡ pack (translationAnswer (now (obligation .entry)) (now (proof .entry)) (size (now (buffer .entry)))) ⌝
+    ensures { λ r. ⌜ Unpacks r (translationAnswer (now (obligation .entry)) (now (proof .entry)) (size (now (buffer .entry)))) ⌝
         ∗ ⌜ Translates (now (obligation .entry)) (now (proof .entry)) (now (buffer .entry)) (now (buffer .exit))
         (translationAnswer (now (obligation .entry)) (now (proof .entry)) (size (now (buffer .entry)))) (now (length .exit)) ⌝ }
 {
@@ -64,7 +64,7 @@ pub extern "C" fn desk_translate(
 // Places 1 to 12 of an obligation and a proof.
 #[no_mangle]
 pub extern "C" fn desk_read_proof(obligation: &[u8], proof: &[u8]) -> u64
-    ensures { λ r. ⌜ r ≡ pack (reading 1 (now (obligation .entry)) (now (proof .entry))) ⌝ }
+    ensures { λ r. ⌜ Unpacks r (reading 1 (now (obligation .entry)) (now (proof .entry))) ⌝ }
 {
     pack(read_proof(obligation, proof))
 }
@@ -72,7 +72,7 @@ pub extern "C" fn desk_read_proof(obligation: &[u8], proof: &[u8]) -> u64
 // Places 1 to 12 of an obligation and a derivation.
 #[no_mangle]
 pub extern "C" fn desk_read_derivation(obligation: &[u8], derivation: &[u8]) -> u64
-    ensures { λ r. ⌜ r ≡ pack (reading 2 (now (obligation .entry)) (now (derivation .entry))) ⌝ }
+    ensures { λ r. ⌜ Unpacks r (reading 2 (now (obligation .entry)) (now (derivation .entry))) ⌝ }
 {
     pack(read_derivation(obligation, derivation))
 }

@@ -1,4 +1,5 @@
 use borrow.Author.Needs.{needs}
+use Rattle.favashears.specs.Pack.{derivation-unpacks}
 use native.Mathlib.Omega.{arith}
 use Rattle.favashears.proofs.entries.desk_check_derivation.Statement.{statement}
 use Rattle.favashears.proofs.entries.desk_check_derivation.Tie as tie
@@ -10,4 +11,4 @@ desk-check-derivation-spec = tie.close (tie.spec
     -- pack-requires: check-derivation; 3 args
     (λ c κs. search needs)
     -- returns: pack; 1 check-derivation; 4 args
-    (λ c. cc))
+    (λ c. derivation-unpacks _ _ _ _ (c .pack .ensures) (c .before .check-derivation .ensures)))

@@ -1,4 +1,5 @@
 use borrow.Author.Needs.{needs}
+use Rattle.favashears.specs.Pack.{proof-unpacks}
 use Rattle.favashears.proofs.entries.desk_check_proof.Statement.{statement}
 use Rattle.favashears.proofs.entries.desk_check_proof.Tie as tie
 
@@ -9,4 +10,4 @@ desk-check-proof-spec = tie.close (tie.spec
     -- pack-requires: check-proof; 3 args
     (λ c κs. search needs)
     -- returns: pack; 1 check-proof; 4 args
-    (λ c. cc))
+    (λ c. proof-unpacks _ _ _ _ (c .pack .ensures) (c .before .check-proof .ensures)))

@@ -1,4 +1,5 @@
 use borrow.Author.Needs.{needs}
+use Rattle.favashears.specs.Pack.{reading-derivation-unpacks}
 use Rattle.favashears.proofs.entries.desk_read_derivation.Statement.{statement}
 use Rattle.favashears.proofs.entries.desk_read_derivation.Tie as tie
 
@@ -9,4 +10,4 @@ desk-read-derivation-spec = tie.close (tie.spec
     -- pack-requires: read-derivation; 3 args
     (λ c κs. search needs)
     -- returns: pack; 1 read-derivation; 4 args
-    (λ c. cc))
+    (λ c. reading-derivation-unpacks _ _ _ _ (c .pack .ensures) (c .before .read-derivation .ensures)))

@@ -1,4 +1,5 @@
 use borrow.Author.Needs.{needs}
+use Rattle.favashears.specs.Pack.{reading-proof-unpacks}
 use Rattle.favashears.proofs.entries.desk_read_proof.Statement.{statement}
 use Rattle.favashears.proofs.entries.desk_read_proof.Tie as tie
 
@@ -9,4 +10,4 @@ desk-read-proof-spec = tie.close (tie.spec
     -- pack-requires: read-proof; 3 args
     (λ c κs. search needs)
     -- returns: pack; 1 read-proof; 4 args
-    (λ c. cc))
+    (λ c. reading-proof-unpacks _ _ _ _ (c .pack .ensures) (c .before .read-proof .ensures)))

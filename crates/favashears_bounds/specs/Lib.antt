@@ -1,0 +1,4 @@
+pub mod Bounds
+pub mod ReadingBounds
+pub mod WalkBounds
+pub mod AnswerBounds
