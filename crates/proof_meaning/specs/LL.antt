@@ -8,7 +8,7 @@ use Rattle.reader.specs.Variables.{instance}
 use Rattle.reader.specs.Typing.{typeOf}
 use Rattle.reader.specs.Notions.{_∈_, Every, IsType, IsTerm, IsFormula, _⟨_⟩, OpenInZero, Closed, Bears, Fresh}
 use Rattle.reader.specs.Members.{_▹_}
-use Rattle.proof_meaning.specs.Signs.{constantᵗ, forTypesᵗ}
+use Rattle.reader_meaning.specs.Signs.{constantᵗ, forTypesᵗ}
 
 -- Γ ⊢ ⊥ in the calculus: "All formulæ are on the left hand side", "the contraction rule is always applied".
 pub data LL : List Tree → Type 0 where
