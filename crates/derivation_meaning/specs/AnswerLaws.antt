@@ -1,5 +1,5 @@
 -- The derivation check as a calculus of `reader_meaning`, and the laws of answers for it.
-use Prim.Native.Nat.{ℕ, zero, suc, _+_, _<_, _≤_}
+use Prim.Native.Nat.{ℕ, zero, suc, _<_, _≤_}
 use mathlib.Core.Path.{_≡_, refl, ap, _∙_}
 use mathlib.Core.List.{List, [], _∷_, map}
 use mathlib.Core.Bool.{Bool, true, false}
@@ -10,11 +10,10 @@ use native.Mathlib.Omega.{arith}
 use Rattle.reader.specs.declared.Answer.{Answer}
 use Rattle.reader.specs.Words.{Reader}
 use Rattle.reader.specs.Tests.{every, ifEq}
-use Rattle.reader.specs.Trees.{Tree, leaf, firstOf, secondOf}
+use Rattle.reader.specs.Trees.{Tree, leaf, lower}
 use Rattle.reader.specs.Chains.{linked, items, premises}
-use Rattle.reader.specs.Trees.{lower}
 use Rattle.reader.specs.Answers.{accepted}
-use Rattle.reader.specs.Places.{hypothesisChain, rootOf}
+use Rattle.reader.specs.Places.{hypothesisChain}
 use Rattle.reader.specs.Members.{part}
 use Rattle.reader.specs.Notions.{here, there, Every}
 use Rattle.reader_laws.specs.NotionLaws.{every-0, every-1, every-2}
@@ -102,7 +101,8 @@ stays-within rd st n b w h l =
     let few : b < length (rowOf rd st n .premises) = omega arith in
     record {
       members = at-place (λ s. length (s .members) ≤ 2048) (rowOf rd st n .premises) st b (p .limit) few;
-      goal = at-place (λ s. Plain (s .goal)) (rowOf rd st n .premises) st b (plain-row (bareParts rd n) st (λ t m. parts-plain rd n t m) (w .goal) (rd n 0)) few;
+      goal = at-place (λ s. Plain (s .goal)) (rowOf rd st n .premises) st b
+          (plain-row (bareParts rd n) st (λ t m. parts-plain rd n t m) (w .goal) (rd n 0)) few;
     }
 
 pub derivation-calculus : (rd : Reader) → Calculus 2 rd (nodeFault rd) (nodeTests rd) (premiseState rd) (DerivesState rd) Within

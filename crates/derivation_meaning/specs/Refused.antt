@@ -1,5 +1,5 @@
--- When a pair of an obligation and a derivation is refused, and where: the places before the walk are those of `reader_meaning`, the walk is that of the
--- derivation check.
+-- When a pair of an obligation and a derivation is refused, and where: the places before the walk are those of `reader_meaning`, the walk is the derivation
+-- check's.
 use Prim.Native.Nat.{ℕ}
 use mathlib.Core.List.{List, [], _∷_}
 use lib.ListN.{length}

@@ -1,4 +1,4 @@
--- When a pair of an obligation and a proof is refused, and where: the places before the walk are those of `reader_meaning`, the walk is that of the proof check.
+-- When a pair of an obligation and a proof is refused, and where: the places before the walk are those of `reader_meaning`, the walk is the proof check's.
 use Prim.Native.Nat.{ℕ}
 use mathlib.Core.List.{List, [], _∷_, map}
 use lib.ListN.{length}

@@ -6,7 +6,7 @@ use mathlib.Core.Bool.{Bool, true, false}
 use lib.Dec.{eqb, ltb}
 use lib.ListN.{length, length-append}
 use native.Mathlib.Omega.{arith}
-use borrow.Author.Tests.{eqb-true, eqb-false, ltb-true, lt-ltb, ne-eqb}
+use borrow.Author.Tests.{eqb-true, eqb-false, ltb-true, ne-eqb}
 use Rattle.reader.specs.declared.Answer.{Answer}
 use Rattle.reader.specs.Words.{Reader}
 use Rattle.reader.specs.Tests.{demand, every}
@@ -84,8 +84,8 @@ each-last Q next st n b (y ∷ ys) x k j h q =
     let sum : k + j ≡ h .0 + (h .1 + j) = omega (arith, h .4) in
     (h .0, h .1 + j, h .2, each-last Q next st n (b + 1) ys x (h .1) j (h .3) (subst (λ (c : ℕ). Q (next st n c) x j) there-b q), sum)
 
--- What is asked of a calculus: its tests, in the order of their numbers, are its fault; the premises of a node that passes them are rule nodes; `Within` holds of
--- every state that a walk from such a state comes to; and a node is done exactly where the walk accepts it, record 0 being the header.
+-- What is asked of a calculus: its tests, in the order of their numbers, are its fault; the premises of a node that passes them are rule nodes; `Within` holds
+-- of every state that a walk from such a state comes to; and a node is done exactly where the walk accepts it, record 0 being the header.
 pub record Calculus {S : Type 0} (mode : ℕ) (rd : Reader) (fault : S → ℕ → ℕ) (tests : S → ℕ → List Test) (next : S → ℕ → ℕ → S)
     (Done : S → ℕ → ℕ → Type 0) (Within : S → Type 0) : Type 0 where
   pub same : (st : S) (n : ℕ) → fault st n ≡ refusalOf (tests st n)
@@ -134,8 +134,8 @@ module _ {S : Type 0} (mode : ℕ) (rd : Reader) (fault : S → ℕ → ℕ) (te
   at-premise c n b st [] x xs k count a e h w refused =
       let here-b : b + 0 ≡ b = omega arith in
       let here-k : count + k ≡ count = omega (arith, h) in
-      at-item c n b x xs st count a e (subst (λ (m : ℕ). visit x (next st n b) m ≡ a) here-k (subst (λ (m : ℕ). visit x (next st n m) (count + k) ≡ a) here-b w))
-      refused
+      at-item c n b x xs st count a e
+      (subst (λ (m : ℕ). visit x (next st n b) m ≡ a) here-k (subst (λ (m : ℕ). visit x (next st n m) (count + k) ≡ a) here-b w)) refused
   at-premise c n b st (y ∷ ys) x xs k count a e h w refused =
       let there-b : b + length (y ∷ ys) ≡ b + 1 + length ys = omega arith in
       let there-k : count + k ≡ count + h .0 + h .1 = omega (arith, h .4) in

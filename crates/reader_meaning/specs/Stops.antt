@@ -1,7 +1,7 @@
 -- Where a walk over rule nodes stops, in any calculus: at the first node whose tests do not all hold, with the first test that fails.
 use Prim.Native.Nat.{ℕ, _+_}
 use mathlib.Core.Path.{_≡_}
-use mathlib.Core.List.{List, [], _∷_, _++_}
+use mathlib.Core.List.{List, _∷_, _++_}
 use mathlib.Core.Bool.{Bool, true, false}
 use lib.ListN.{length}
 use Rattle.reader.specs.declared.Answer.{Answer}
@@ -30,8 +30,8 @@ abbrev pub AllHold : List Test → Type 0
 AllHold ts = Every (λ t. t .holds ≡ true) ts
 
 -- "node, then premises in chain order": the walk of node n in the state st, after `count` nodes, stops with an answer. It stops at the node itself, or in one
--- of its premises, all those before it being done, with k nodes in all. `tests` are a node's tests in the order of their numbers, `next` gives the state of each
--- premise, and `Done st n k` says that node n does what st asks, with k nodes: it proves its sequent, or derives it.
+-- of its premises, all those before it being done, with k nodes in all. `tests` are a node's tests in the order of their numbers, `next` gives the state of
+-- each premise, and `Done st n k` says that node n does what st asks, with k nodes: it proves its sequent, or derives it.
 pub data Stops {S : Type 0} (mode : ℕ) (rd : Reader) (tests : S → ℕ → List Test) (next : S → ℕ → ℕ → S) (Done : S → ℕ → ℕ → Type 0) :
     S → ℕ → ℕ → Answer → Type 0 where
   here : {st : S} {n count r : ℕ} → RuleKind mode (rd n 0) → First (tests st n) r → Stops mode rd tests next Done st n count (answer r 2 n (count + 1))

@@ -541,7 +541,8 @@ module _ (mode : ℕ) (rd : Reader) (i : ℕ) (fit-1 : rangeAt rd i 1 ≡ true) 
       (λ e. Ranges.given-type e (zero-range rd i 2 (role-at 2 3 e) fit-2) (zero-range rd i 3 (role-at 3 3 e) fit-3))
       (λ e. Ranges.set-type e (zero-range rd i 2 (role-at 2 4 e) fit-2) (zero-range rd i 3 (role-at 3 4 e) fit-3))
       (λ e. Ranges.pair-type e (zero-range rd i 3 (role-at 3 5 e) fit-3))
-      (λ e. Ranges.type-variable e (three-range rd i 1 (role-at 1 6 e) fit-1) (zero-range rd i 2 (role-at 2 6 e) fit-2) (zero-range rd i 3 (role-at 3 6 e) fit-3))
+      (λ e. Ranges.type-variable e
+      (three-range rd i 1 (role-at 1 6 e) fit-1) (zero-range rd i 2 (role-at 2 6 e) fit-2) (zero-range rd i 3 (role-at 3 6 e) fit-3))
       (λ e. Ranges.constant e (zero-range rd i 3 (role-at 3 7 e) fit-3))
       (λ e. Ranges.function e (four-range rd i 2 (role-at 2 8 e) fit-2))
       (λ e. Ranges.bound-variable e (index-range rd i 1 (role-at 1 9 e) fit-1) (zero-range rd i 3 (role-at 3 9 e) fit-3))
@@ -557,7 +558,8 @@ module _ (mode : ℕ) (rd : Reader) (i : ℕ) (fit-1 : rangeAt rd i 1 ≡ true) 
       (λ e. Ranges.universal e (zero-range rd i 3 (role-at 3 19 e) fit-3))
       (λ e. Ranges.equation e (zero-range rd i 3 (role-at 3 20 e) fit-3))
       (λ e. Ranges.membership e (zero-range rd i 3 (role-at 3 21 e) fit-3))
-      (λ e. let c = count-range rd i 1 (role-at 1 22 e) fit-1 in Ranges.for-all-types e (c .0) (c .1) (zero-range rd i 3 (role-at 3 22 e) fit-3))
+      (λ e. let c = count-range rd i 1 (role-at 1 22 e) fit-1 in
+      Ranges.for-all-types e (c .0) (c .1) (zero-range rd i 3 (role-at 3 22 e) fit-3))
 
   pub ranges-in : Kind mode (rd i 0) → Ranges mode rd i
   unfolding role ifLt ifEq

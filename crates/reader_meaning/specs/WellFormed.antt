@@ -1,6 +1,6 @@
 -- A well-formed pair of an obligation and a second file, a proof or a derivation, as paper 01 says it: lengths, headers, records, roots, naming.
 -- `mode` is the kind of file: 0 an obligation, 1 a proof, 2 a derivation.
-use Prim.Native.Nat.{ℕ, zero, suc, _+_, _%_, _<_, _≤_}
+use Prim.Native.Nat.{ℕ, suc, _+_, _%_, _<_, _≤_}
 use mathlib.Core.Path.{_≡_}
 use mathlib.Core.List.{List, [], _∷_}
 use mathlib.Core.Logic.{_⊎_}
