@@ -22,13 +22,15 @@ pub record OwnName (rd : Reader) (i : ℕ) : Type 0 where
   pub ofTypes : rd i 0 ≡ 3 → (j : ℕ) → 1 ≤ j → j < i → rd j 0 ≡ 3 → name rd j ≡ name rd i → ⊥
   pub ofOthers : ConstantOrFunction (rd i 0) → (j : ℕ) → 1 ≤ j → j < i → ConstantOrFunction (rd j 0) → name rd j ≡ name rd i → ⊥
 
--- What is asked of the weight, the name and the typing of record i: "10 typing, not in derivations".
+-- record i has a weight that is allowed, where it has one
 abbrev pub LightRecord : ℕ → Reader → ℕ → Type 0
 LightRecord mode rd i = Weighed (rd i 0) → Light mode (weight (tree rd i))
 
+-- record i has a good name, where it is a symbol
 abbrev pub NamedWell : Reader → ℕ → Type 0
 NamedWell rd i = Symbol (rd i 0) → GoodName rd i
 
+-- "10 typing, not in derivations": record i is typed as paper 01 asks, but in a derivation
 abbrev pub TypedWell : ℕ → Reader → ℕ → Type 0
 TypedWell mode rd i = (mode ≡ 2 → ⊥) → Typed rd i
 
