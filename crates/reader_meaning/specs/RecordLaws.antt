@@ -149,7 +149,7 @@ module _ (mode : ℕ) (rd : Reader) (i : ℕ) where
       record {
         entry = e;
         chainLengths = chains-in rd i (s .nameLength) (s .chains);
-        light = weight-test-in (s .weighs);
+        weighs = weight-test-in (s .weighs);
         goodName = name-test-in e (s .named);
         ownName = own-test-in e (s .free);
         typed = typing-test-in e (s .typed);
@@ -164,7 +164,7 @@ module _ (mode : ℕ) (rd : Reader) (i : ℕ) where
         reference = λ w p q. fits w p q .1;
         nameLength = name-fits rd i (r .chainLengths);
         chains = chains-out rd i (r .chainLengths);
-        weighs = weight-test-out (r .light);
+        weighs = weight-test-out (r .weighs);
         named = name-test-out (r .goodName);
         free = own-test-out (r .ownName);
         typed = typing-test-out (r .entry) pos (r .typed);

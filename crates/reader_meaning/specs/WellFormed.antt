@@ -38,7 +38,7 @@ TypedWell mode rd i = (mode ≡ 2 → ⊥) → Typed rd i
 pub record WellFormedRecord (mode : ℕ) (rd : Reader) (i : ℕ) : Type 0 where
   pub entry : Entry mode rd i
   pub chainLengths : ChainLengths rd i
-  pub light : LightRecord mode rd i
+  pub weighs : LightRecord mode rd i
   pub goodName : NamedWell rd i
   pub ownName : OwnName rd i
   pub typed : TypedWell mode rd i
