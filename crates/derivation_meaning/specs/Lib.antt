@@ -1,6 +1,7 @@
 pub mod Formulas
 pub mod Derives
 pub mod Derivable
+pub mod Refused
 pub mod Statements
 pub mod MemberLaws
 pub mod EraseLaws
@@ -14,5 +15,6 @@ pub mod Formed
 pub mod Start
 pub mod DerivableLaws
 pub mod WalkMeans
+pub mod AnswerLaws
 pub mod Theorems
 pub mod Intro

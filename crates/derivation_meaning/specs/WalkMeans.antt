@@ -1,10 +1,8 @@
 -- The walk accepts exactly the derivations.
 use Prim.Native.Nat.{ℕ, _+_, _≤_}
-use mathlib.Core.Path.{_≡_, sym, ap, _∙_}
+use mathlib.Core.Path.{_≡_}
 use mathlib.Core.List.{List}
-use mathlib.Core.Logic.{_↔_}
 use lib.ListN.{length}
-use native.Mathlib.Omega.{arith}
 use Rattle.reader.specs.declared.Answer.{Answer}
 use Rattle.reader.specs.Words.{Reader}
 use Rattle.reader.specs.Trees.{Tree}
@@ -34,14 +32,3 @@ module _ (rd : Reader) where
   pub derives-walk : (head : rd 0 0 ≡ 1) {Γ : List Tree} {P : Tree} {d n k : ℕ} → Derives rd Γ P d n k → (count : ℕ) →
       walk n Γ P d count ≡ accepted (count + k)
   derives-walk head p = derives-goes rd head p
-
-  pub accepts : (head : rd 0 0 ≡ 1) (n : ℕ) (Γ : List Tree) (P : Tree) (d count k : ℕ) → length Γ ≤ 2048 → Plain P →
-      (walk n Γ P d count ≡ accepted (count + k)) ↔ Derives rd Γ P d n k
-  accepts head n Γ P d count k few plain = (to, λ p. derives-walk head p count)
-    where
-      to : walk n Γ P d count ≡ accepted (count + k) → Derives rd Γ P d n k
-      to h =
-          let r = walk-derives n Γ P d count few plain (ap (λ (a : Answer). a .refusal) h) in
-          let e : count + r .0 ≡ count + k = ap (λ (a : Answer). a .nodes) (sym (r .2) ∙ h) in
-          let same : r .0 ≡ k = omega arith in
-          rw same at (r .1)

@@ -70,8 +70,27 @@ symmetry =
     r 1 10 10 9 ∷
     r 2 83 0 0 ∷ r 3 1 0 0 ∷ r 2 99 0 0 ∷ r 7 2 3 0 ∷ r 2 100 0 0 ∷ r 7 2 5 0 ∷ r 20 4 6 0 ∷ r 20 6 4 0 ∷ r 18 8 0 0 ∷ r 1 7 0 0 ∷ []
 
+-- all seventeen rules in one derivation: sample e1 of tests/samples, of the goal ∀x·x=x
+abbrev everyRule : List Words
+everyRule =
+    r 1 73 79 6 ∷ r 2 99 0 0 ∷ r 7 2 7 0 ∷ r 20 8 8 0 ∷ r 15 0 0 0 ∷ r 14 0 0 0 ∷ r 17 10 5 0 ∷ r 16 5 10 0 ∷
+    r 16 10 5 0 ∷ r 19 2 5 0 ∷ r 80 0 0 0 ∷ r 1 9 0 0 ∷ r 1 8 0 17 ∷ r 1 16 0 0 ∷ r 77 18 19 0 ∷ r 80 0 0 0 ∷
+    r 1 5 0 0 ∷ r 1 9 0 22 ∷ r 1 5 0 23 ∷ r 1 20 0 0 ∷ r 1 21 0 25 ∷ r 79 24 26 0 ∷ r 1 8 0 22 ∷ r 1 27 0 0 ∷
+    r 77 28 29 0 ∷ r 1 8 0 0 ∷ r 1 15 0 31 ∷ r 1 30 0 0 ∷ r 78 32 33 0 ∷ r 66 0 0 0 ∷ r 1 35 0 0 ∷ r 1 34 0 36 ∷
+    r 75 22 37 0 ∷ r 66 0 0 0 ∷ r 1 38 0 0 ∷ r 1 39 0 40 ∷ r 70 0 41 0 ∷ r 1 14 0 0 ∷ r 1 42 0 0 ∷ r 72 43 44 0 ∷
+    r 66 0 0 0 ∷ r 1 46 0 0 ∷ r 1 45 0 47 ∷ r 70 0 48 0 ∷ r 1 13 0 0 ∷ r 1 49 0 0 ∷ r 71 50 51 0 ∷ r 1 10 0 0 ∷
+    r 1 52 0 0 ∷ r 65 53 54 0 ∷ r 1 55 0 0 ∷ r 73 0 56 0 ∷ r 1 12 0 0 ∷ r 1 57 0 0 ∷ r 74 58 59 0 ∷ r 64 0 0 0 ∷
+    r 1 60 0 0 ∷ r 73 0 62 0 ∷ r 1 63 0 0 ∷ r 1 61 0 64 ∷ r 69 58 65 0 ∷ r 68 0 0 0 ∷ r 66 0 0 0 ∷ r 66 0 0 0 ∷
+    r 1 11 0 0 ∷ r 1 69 0 0 ∷ r 1 68 0 71 ∷ r 76 70 72 0 ∷ r 1 73 0 0 ∷ r 1 67 0 74 ∷ r 76 53 75 0 ∷ r 1 66 0 0 ∷
+    r 1 76 0 77 ∷ r 67 53 78 0 ∷ []
+
 abbrev pub traps : List Case
 traps =
+    -- all seventeen rules
+    trap reflexive everyRule (answer 0 0 0 26) ∷
+    -- "number, class or form of parts or goal": BR6 with the goal ⊥, and BR3 with a part
+    trap falseFromFalse (r 1 1 4 3 ∷ r 68 0 0 0 ∷ []) (answer 13 2 4 1) ∷
+    trap falseFromFalse (r 1 2 5 3 ∷ r 1 1 0 0 ∷ r 66 4 0 0 ∷ []) (answer 13 2 5 1) ∷
     -- R7 with a new constant
     trap reflexive
     (r 1 8 14 6 ∷ r 2 99 0 0 ∷ r 7 2 7 0 ∷ r 20 8 8 0 ∷ r 80 0 0 0 ∷ r 1 9 0 0 ∷ r 1 8 0 11 ∷ r 1 10 0 0 ∷ r 77 12 13 0 ∷ [])

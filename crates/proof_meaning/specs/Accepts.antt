@@ -25,9 +25,9 @@ use Rattle.proof_rules.specs.Check.{nodeFault, premiseSequent}
 use Rattle.reader.specs.Notions.{_∈_, here, there, Every, IsType, IsTerm, IsFormula, Closed, Fresh}
 use Rattle.reader_laws.specs.NotionLaws.{every-0, every-more, every-1, every-2, every-in, every-out}
 use Rattle.reader_laws.specs.NotionLaws.{closed-in, closed-out, indices-in, indices-out, bears-in, bears-out}
-use Rattle.proof_meaning.specs.Signs.{constantᵗ, forTypesᵗ}
+use Rattle.reader_meaning.specs.Signs.{constantᵗ, forTypesᵗ}
 use Rattle.proof_meaning.specs.Proves.{ProofNode, Fits, Proves}
-use Rattle.proof_meaning.specs.Forms.{and-made, implies-made, for-all-made, equal-made, constant-made}
+use Rattle.reader_meaning.specs.TreeForms.{and-made, implies-made, for-all-made, equal-made, constant-made}
 use Rattle.proof_meaning.specs.Forms.{of-class, class-of, of-kind, of-negated, cons-same}
 use Rattle.proof_meaning.specs.Forms.{forms-0, forms-1, forms-3, forms-5, forms-45, forms-head, forms-types}
 use Rattle.proof_meaning.specs.Forms.{more-forms, no-forms, one-form, kind-form, negated-form, types-form}

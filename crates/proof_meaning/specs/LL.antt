@@ -8,7 +8,7 @@ use Rattle.reader.specs.Trees.{Tree, ⊥ᵗ, ⊤ᵗ, _∧ᵗ_, _⇒ᵗ_, ¬ᵗ_
 use Rattle.reader.specs.Variables.{instance}
 use Rattle.reader.specs.Notions.{_∈_, Every, _⟨_⟩, NoIndex, OpenInZero, TypesBelow, Closed, Bears, Fresh}
 use Rattle.reader.specs.Members.{_▹_}
-use Rattle.proof_meaning.specs.Signs.{constantᵗ, forTypesᵗ}
+use Rattle.reader_meaning.specs.Signs.{constantᵗ, forTypesᵗ}
 use Rattle.proof_meaning.specs.TypedTrees.{TypeOver, HasType, TypedFormula, PolymorphicFormula}
 
 -- A closed well-typed formula over the symbols of the files that rd reads.

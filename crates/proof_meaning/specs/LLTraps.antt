@@ -15,7 +15,7 @@ use Rattle.reader.specs.Members.{_▹_}
 use Rattle.reader.specs.Notions.{_∈_, here, there, Every, _⟨_⟩, Closed}
 use Rattle.reader_laws.specs.Scan.{both-parts}
 use Rattle.reader_laws.specs.NotionLaws.{every-0, every-1}
-use Rattle.proof_meaning.specs.Signs.{constantᵗ, forTypesᵗ}
+use Rattle.reader_meaning.specs.Signs.{constantᵗ, forTypesᵗ}
 use Rattle.proof_meaning.specs.TypedTrees.{TypeOver, HasType, TypedFormula}
 use Rattle.proof_meaning.specs.LL.{Member, LL}
 use Rattle.proof_meaning.specs.TypedTreeLaws.{symbol-inside}

@@ -1,11 +1,6 @@
-pub mod Signs
 pub mod Proves
 pub mod TypedTrees
 pub mod LL
-pub mod Table
-pub mod Spelling
-pub mod Typed
-pub mod WellFormed
 pub mod Refused
 pub mod Statements
 pub mod Forms
@@ -14,13 +9,6 @@ pub mod Accepts
 pub mod TypedTreeLaws
 pub mod LLLaws
 pub mod LLTraps
-pub mod TableLaws
-pub mod SpellingLaws
-pub mod TypedLaws
-pub mod RecordLaws
 pub mod TypedStart
-pub mod FileLaws
 pub mod AnswerLaws
-pub mod StopLaws
-pub mod Refusals
 pub mod Theorems

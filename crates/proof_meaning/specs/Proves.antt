@@ -11,7 +11,7 @@ use Rattle.reader.specs.Variables.{instance}
 use Rattle.reader.specs.Typing.{typeOf}
 use Rattle.reader.specs.Notions.{_∈_, Every, IsType, IsTerm, IsFormula, _⟨_⟩, OpenInZero, Closed, Bears, Fresh}
 use Rattle.reader.specs.Members.{_▹_}
-use Rattle.proof_meaning.specs.Signs.{constantᵗ, forTypesᵗ}
+use Rattle.reader_meaning.specs.Signs.{constantᵗ, forTypesᵗ}
 
 -- node n is of kind k, with the trees `ps` as its parts and the nodes `xs` as its premises
 pub record ProofNode (rd : Reader) (n k : ℕ) (ps : List Tree) (xs : List ℕ) : Type 0 where

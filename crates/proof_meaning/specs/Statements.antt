@@ -9,11 +9,11 @@ use Rattle.reader.specs.Answers.{accepted}
 use Rattle.reader.specs.Members.{_▹_}
 use Rattle.reader.specs.Places.{hypotheses, goal, rootOf, reading}
 use Rattle.reader_laws.specs.File.{alone, beside}
+use Rattle.reader_meaning.specs.WellFormed.{WellFormed}
 use Rattle.proof_rules.specs.Check.{startSequent, proofAnswer}
 use Rattle.proof_meaning.specs.Proves.{Proves}
 use Rattle.proof_meaning.specs.TypedTrees.{TypedRecords}
 use Rattle.proof_meaning.specs.LL.{LL}
-use Rattle.proof_meaning.specs.WellFormed.{WellFormed}
 use Rattle.proof_meaning.specs.Refused.{Refused}
 
 -- The root of the proof proves the start, that is the hypotheses and the negated goal, by k nodes.

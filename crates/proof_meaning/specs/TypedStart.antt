@@ -19,10 +19,10 @@ use Rattle.reader_laws.specs.NotionLaws.{every-0, every-more, indices-in, types
 use Rattle.reader_laws.specs.File.{beside, lastOf, ReadObligation, ReadSecond, hypothesis-parts}
 use Rattle.reader_laws.specs.Pair.{header-kind, beside-past, pair-sound, pair-goal-tree, pair-goal-closed, pair-hypotheses}
 use Rattle.proof_rules.specs.Check.{startSequent}
-use Rattle.proof_meaning.specs.Typed.{Typed}
+use Rattle.reader_meaning.specs.Typed.{Typed}
 use Rattle.proof_meaning.specs.TypedTrees.{PolymorphicFormula, TypedRecords}
 use Rattle.proof_meaning.specs.LL.{ClosedFormula, Member, Sequent}
-use Rattle.proof_meaning.specs.RecordLaws.{record-in}
+use Rattle.reader_meaning.specs.RecordLaws.{record-in}
 use Rattle.proof_meaning.specs.TypedTreeLaws.{typed-records}
 use Rattle.proof_meaning.specs.LLLaws.{and-one}
 
@@ -42,7 +42,7 @@ module _ (ob pf : List ℕ) (r : ReadObligation ob) (s : ReadSecond 1 ob pf) whe
   rd = beside ob pf
 
   each-typed : (i : ℕ) → 1 ≤ i → i ≤ lastOf ob pf → Typed rd i
-  each-typed i p q = record-in 1 rd i (λ e. omega arith) (pair-sound 1 ob pf r s i p q) .typed
+  each-typed i p q = record-in 1 rd i (pair-sound 1 ob pf r s i p q) .typed (λ e. omega arith)
 
   pub files-typed : TypedRecords (beside ob pf)
   files-typed =

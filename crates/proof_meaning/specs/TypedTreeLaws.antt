@@ -21,8 +21,8 @@ use Rattle.reader_laws.specs.Scan.{every-head}
 use Rattle.reader_laws.specs.Record.{Sound, class-is, items-are}
 use Rattle.reader_laws.specs.Classes.{type-class, term-class, formula-class, function-class, link-class, class-of-kind}
 use Rattle.reader_laws.specs.Parts
-use Rattle.proof_meaning.specs.Signs.{constantᵗ}
-use Rattle.proof_meaning.specs.Typed.{Typed}
+use Rattle.reader_meaning.specs.Signs.{constantᵗ}
+use Rattle.reader_meaning.specs.Typed.{Typed}
 use Rattle.proof_meaning.specs.TypedTrees.{TypeOver, Types, IsConstant, IsFunction, HasType, Arguments, TypedFormula, PolymorphicFormula, TypedRecords}
 
 -- Types of terms.

@@ -9,7 +9,7 @@ use Rattle.reader.specs.Trees.{Tree, leaf, node, tree, kindOf, ⊥ᵗ, ⊤ᵗ, 
 use Rattle.reader.specs.Variables.{instance}
 use Rattle.reader.specs.Typing.{typeOf}
 use Rattle.reader.specs.Notions.{Every, IsType, IsTerm, IsFormula, TypesBelow, Bears}
-use Rattle.proof_meaning.specs.Signs.{constantᵗ, forTypesᵗ}
+use Rattle.reader_meaning.specs.Signs.{constantᵗ, forTypesᵗ}
 
 -- A type: a given type of the files, a set type, a pair type, a type variable.
 pub data TypeOver (rd : Reader) : Tree → Type 0 where

@@ -4,3 +4,4 @@ pub mod RowLaws
 pub mod Opened
 pub mod Cases
 pub mod Traps
+pub mod Limits

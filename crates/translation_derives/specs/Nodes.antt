@@ -21,7 +21,7 @@ use Rattle.derivation_meaning.specs.Formulas.{Formula, OfLanguage}
 use Rattle.derivation_meaning.specs.Derives.{Derives}
 use Rattle.derivation_meaning.specs.Instances.{instance-formula}
 use Rattle.derivation_meaning.specs.EraseLaws.{erase-false, erase-true, erase-and, erase-implies, erase-not, erase-all, erase-equal, erase-constant, erase-for-all-types, indices-erase, occurs-erase, replaced-erase, formula-erase, term-erase}
-use Rattle.proof_meaning.specs.Signs.{constantᵗ, forTypesᵗ}
+use Rattle.reader_meaning.specs.Signs.{constantᵗ, forTypesᵗ}
 use Rattle.proof_meaning.specs.Proves.{ProofNode, Fits, Proves}
 use Rattle.translation_rules.specs.Templates.{template}
 use Rattle.translation_rules.specs.Output.{Block, size, baseOf, endOf, lettersOf, Translated}

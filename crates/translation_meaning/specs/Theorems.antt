@@ -26,7 +26,8 @@ use Rattle.derivation_rules.specs.Check.{bareHypotheses, bareGoal, derivationAn
 use Rattle.derivation_meaning.specs.Derives.{Derives}
 use Rattle.derivation_meaning.specs.EraseLaws.{erase-false, erase-not}
 use Rattle.derivation_meaning.specs.Start.{hypotheses-alone, goal-alone}
-use Rattle.derivation_meaning.specs.Theorems.{derivation-means, derivation-B}
+use Rattle.derivation_meaning.specs.AnswerLaws.{read-accepted}
+use Rattle.derivation_meaning.specs.Theorems.{derivation-B}
 use Rattle.translation_rules.specs.Output.{lineWord, copied, endOf, startOf, written, lettersOfStart}
 use Rattle.translation_rules.specs.Bytes.{derivationBytes}
 use Rattle.translation_rules.specs.Check.{roomFor, translationAnswer}
@@ -161,7 +162,7 @@ module _ (ob pf : List ℕ) (k : ℕ) (h : proofAnswer ob pf ≡ accepted k) whe
       subst (λ (i : ℕ). Derives ro (bareHypotheses ro) (bareGoal ro) 1 i (p .0)) (sym (root-is ob pf k h))
       (subst (λ (Δ : List Tree). Derives ro Δ (bareGoal ro) 1 (startOf rd m n + 4) (p .0)) (sym (hypotheses-alone 2 ob dv r derivation-read))
       (subst (λ (P : Tree). Derives ro Γ P 1 (startOf rd m n + 4) (p .0)) (sym (goal-alone 2 ob dv r derivation-read)) (p .1))) in
-      (p .0, derivation-means ob dv (p .0) .1 (r, derivation-read, at))
+      (p .0, read-accepted ob dv (p .0) r derivation-read at)
 
 pub translation-accepted : TranslationAccepted
 translation-accepted ob pf k h = translates ob pf k h

@@ -14,14 +14,14 @@ use Rattle.reader.specs.Trees.{lower}
 use Rattle.reader.specs.Chains.{items}
 use Rattle.reader.specs.Weight.{isWeighed}
 use Rattle.reader.specs.Names.{nameOf}
-use Rattle.reader.specs.Records.{inRange, rangeAt, mayBeZero, wantedClass, itemClass, hasClass, itemsHaveClass, refers, refersAt}
-use Rattle.reader.specs.Records.{nameLengthFits, typesFit, argumentsFit, itemChainsFit}
+use Rattle.reader.specs.Records.{inRange, rangeAt, rangesFit, mayBeZero, wantedClass, itemClass, hasClass, itemsHaveClass, refers, refersAt}
+use Rattle.reader.specs.Records.{nameLengthFits, typesFit, argumentsFit, itemChainsFit, mostWeight}
 use Rattle.reader_laws.specs.Scan.{both-parts, both-join, between-parts, when-less, when-not-less, when-equal, when-different}
 use Rattle.reader_laws.specs.Record.{role-known}
 use Rattle.reader_laws.specs.Parts.{lower-zero}
 use Rattle.reader_laws.specs.NotionLaws.{every-in, every-out}
-use Rattle.proof_meaning.specs.Spelling.{ConstantOrFunction, Symbol}
-use Rattle.proof_meaning.specs.Table.{NamesAny, Names, MayName, NamesChain, MayNameChain, Entry, ChainLengths, Weighed}
+use Rattle.reader_meaning.specs.Spelling.{ConstantOrFunction, Symbol}
+use Rattle.reader_meaning.specs.Table.{NamesAny, Names, MayName, NamesChain, MayNameChain, RuleKind, Kind, Entry, Ranges, ChainLengths, Weighed, Light}
 
 -- a reference that must be given, and one that may be 0: to a smaller record, where x and y are what its class and its items must meet
 module _ (a i : ℕ) (x y : Bool) where
@@ -79,49 +79,93 @@ module _ (rd : Reader) (i w : ℕ) where
   unfolding rangeAt refersAt
   fit-out r e f = (ap (λ (s : ℕ). inRange s (rd i w)) e ∙ f .0, ap (λ (s : ℕ). refers rd i s (rd i w)) e ∙ f .1)
 
-  zero-in : roleAt rd i w ≡ 0 → Fit rd i w → rd i w ≡ 0
+  -- words that are no references, by the test of range alone
+  range-in : (r : ℕ) → roleAt rd i w ≡ r → rangeAt rd i w ≡ true → inRange r (rd i w) ≡ true
+  unfolding rangeAt
+  range-in r e f = ap (λ (s : ℕ). inRange s (rd i w)) (sym e) ∙ f
+
+  range-out : (r : ℕ) → roleAt rd i w ≡ r → inRange r (rd i w) ≡ true → rangeAt rd i w ≡ true
+  unfolding rangeAt
+  range-out r e f = ap (λ (s : ℕ). inRange s (rd i w)) e ∙ f
+
+  zero-range : roleAt rd i w ≡ 0 → rangeAt rd i w ≡ true → rd i w ≡ 0
   unfolding inRange ifEq
-  zero-in e f = eqb-true _ 0 (fit-in 0 e f .0)
+  zero-range e f = eqb-true _ 0 (range-in 0 e f)
+
+  range-zero : rd i w ≡ 0 → inRange 0 (rd i w) ≡ true
+  unfolding inRange ifEq
+  range-zero h = eq-eqb _ 0 h
+
+  three-range : roleAt rd i w ≡ 2 → rangeAt rd i w ≡ true → rd i w ≤ 3
+  unfolding inRange ifEq
+  three-range e f = let l = ltb-true (rd i w) 4 (range-in 2 e f) in omega arith
+
+  range-three : rd i w ≤ 3 → inRange 2 (rd i w) ≡ true
+  unfolding inRange ifEq
+  range-three h = lt-ltb (rd i w) 4 (omega arith)
+
+  four-range : roleAt rd i w ≡ 3 → rangeAt rd i w ≡ true → rd i w ≤ 4
+  unfolding inRange ifEq
+  four-range e f = let l = ltb-true (rd i w) 5 (range-in 3 e f) in omega arith
+
+  range-four : rd i w ≤ 4 → inRange 3 (rd i w) ≡ true
+  unfolding inRange ifEq
+  range-four h = lt-ltb (rd i w) 5 (omega arith)
+
+  index-range : roleAt rd i w ≡ 4 → rangeAt rd i w ≡ true → rd i w ≤ 63
+  unfolding inRange ifEq
+  index-range e f = let l = ltb-true (rd i w) 64 (range-in 4 e f) in omega arith
+
+  range-index : rd i w ≤ 63 → inRange 4 (rd i w) ≡ true
+  unfolding inRange ifEq
+  range-index h = lt-ltb (rd i w) 64 (omega arith)
+
+  count-range : roleAt rd i w ≡ 5 → rangeAt rd i w ≡ true → (1 ≤ rd i w) × (rd i w ≤ 4)
+  unfolding inRange ifEq
+  count-range e f = between-parts 1 4 (rd i w) (range-in 5 e f)
+
+  range-count : 1 ≤ rd i w → rd i w ≤ 4 → inRange 5 (rd i w) ≡ true
+  unfolding inRange ifEq
+  range-count p q = between-out 1 4 (rd i w) p q
+
+  zero-in : roleAt rd i w ≡ 0 → Fit rd i w → rd i w ≡ 0
+  zero-in e f = zero-range e (f .0)
 
   zero-out : roleAt rd i w ≡ 0 → rd i w ≡ 0 → Fit rd i w
-  unfolding inRange ifEq refers ifLt
-  zero-out e h = fit-out 0 e (eq-eqb _ 0 h, refl)
+  unfolding refers ifLt
+  zero-out e h = fit-out 0 e (range-zero h, refl)
 
   bytes-out : roleAt rd i w ≡ 1 → Fit rd i w
   unfolding inRange ifEq refers ifLt
   bytes-out e = fit-out 1 e (refl, refl)
 
   three-in : roleAt rd i w ≡ 2 → Fit rd i w → rd i w ≤ 3
-  unfolding inRange ifEq
-  three-in e f = let l = ltb-true (rd i w) 4 (fit-in 2 e f .0) in omega arith
+  three-in e f = three-range e (f .0)
 
   three-out : roleAt rd i w ≡ 2 → rd i w ≤ 3 → Fit rd i w
-  unfolding inRange ifEq refers ifLt
-  three-out e h = fit-out 2 e (lt-ltb (rd i w) 4 (omega arith), refl)
+  unfolding refers ifLt
+  three-out e h = fit-out 2 e (range-three h, refl)
 
   four-in : roleAt rd i w ≡ 3 → Fit rd i w → rd i w ≤ 4
-  unfolding inRange ifEq
-  four-in e f = let l = ltb-true (rd i w) 5 (fit-in 3 e f .0) in omega arith
+  four-in e f = four-range e (f .0)
 
   four-out : roleAt rd i w ≡ 3 → rd i w ≤ 4 → Fit rd i w
-  unfolding inRange ifEq refers ifLt
-  four-out e h = fit-out 3 e (lt-ltb (rd i w) 5 (omega arith), refl)
+  unfolding refers ifLt
+  four-out e h = fit-out 3 e (range-four h, refl)
 
   index-in : roleAt rd i w ≡ 4 → Fit rd i w → rd i w ≤ 63
-  unfolding inRange ifEq
-  index-in e f = let l = ltb-true (rd i w) 64 (fit-in 4 e f .0) in omega arith
+  index-in e f = index-range e (f .0)
 
   index-out : roleAt rd i w ≡ 4 → rd i w ≤ 63 → Fit rd i w
-  unfolding inRange ifEq refers ifLt
-  index-out e h = fit-out 4 e (lt-ltb (rd i w) 64 (omega arith), refl)
+  unfolding refers ifLt
+  index-out e h = fit-out 4 e (range-index h, refl)
 
   count-in : roleAt rd i w ≡ 5 → Fit rd i w → (1 ≤ rd i w) × (rd i w ≤ 4)
-  unfolding inRange ifEq
-  count-in e f = between-parts 1 4 (rd i w) (fit-in 5 e f .0)
+  count-in e f = count-range e (f .0)
 
   count-out : roleAt rd i w ≡ 5 → 1 ≤ rd i w → rd i w ≤ 4 → Fit rd i w
-  unfolding inRange ifEq refers ifLt
-  count-out e p q = fit-out 5 e (between-out 1 4 (rd i w) p q, refl)
+  unfolding refers ifLt
+  count-out e p q = fit-out 5 e (range-count p q, refl)
 
   any-in : roleAt rd i w ≡ 10 → Fit rd i w → NamesAny rd i w
   unfolding refers ifLt mayBeZero wantedClass itemClass hasClass itemsHaveClass ifEq
@@ -265,6 +309,41 @@ module _ (rd : Reader) (i w : ℕ) where
             (λ n. may-out (rd i w) i _ _ (n .link .given) (n .link .smaller) (eq-eqb _ 1 (n .link .ofClass)) (items-out 4 n)) m,
       )
 
+-- the kinds of rule nodes, and of a file
+pub rule-in : (mode k : ℕ) → isRule mode k ≡ true → RuleKind mode k
+unfolding isRule ifEq
+rule-in mode k h = go (eqb mode 1) refl (eqb mode 2) refl h
+  where
+    go : (a : Bool) → eqb mode 1 ≡ a → (b : Bool) → eqb mode 2 ≡ b →
+        _≡_ {A = Bool} (elim a [ true ↦ between 32 46 k | false ↦ elim b [ true ↦ between 64 80 k | false ↦ false ] ]) true → RuleKind mode k
+    go true ea b eb h = let p = between-parts 32 46 k h in RuleKind.proof (eqb-true mode 1 ea) (p .0) (p .1)
+    go false ea true eb h = let p = between-parts 64 80 k h in RuleKind.derivation (eqb-true mode 2 eb) (p .0) (p .1)
+    go false ea false eb h = absurd (false≢true h)
+
+pub rule-out : {mode k : ℕ} → RuleKind mode k → isRule mode k ≡ true
+unfolding isRule ifEq
+rule-out {mode} {k} (RuleKind.proof m low high) = ap (λ (o : ℕ). isRule o k) m ∙ between-out 32 46 k low high
+rule-out {mode} {k} (RuleKind.derivation m low high) = ap (λ (o : ℕ). isRule o k) m ∙ between-out 64 80 k low high
+
+pub rule-least : {mode k : ℕ} → RuleKind mode k → 32 ≤ k
+rule-least (RuleKind.proof m low high) = low
+rule-least (RuleKind.derivation m low high) = omega arith
+
+pub kind-in : (mode k : ℕ) → isKind mode k ≡ true → Kind mode k
+unfolding isKind ifLt
+kind-in mode k h = go (ltb k 23) refl h
+  where
+    go : (b : Bool) → ltb k 23 ≡ b → _≡_ {A = Bool} (elim b [ true ↦ ltb 0 k | false ↦ isRule mode k ]) true → Kind mode k
+    go true e h = let l = ltb-true k 23 e in Kind.table (ltb-true 0 k h) (omega arith)
+    go false e h = Kind.rule (rule-in mode k h)
+
+pub kind-out : {mode k : ℕ} → Kind mode k → isKind mode k ≡ true
+unfolding isKind
+kind-out {mode} {k} (Kind.table low high) = when-less (ltb 0 k) (isRule mode k) k 23 (omega arith) ∙ lt-ltb 0 k low
+kind-out {mode} {k} (Kind.rule r) =
+    let low = rule-least r in
+    when-not-less (ltb 0 k) (isRule mode k) k 23 (omega arith) ∙ rule-out r
+
 -- the least of some numbers, or more
 least : (c k : ℕ) → c ≤ k → (k ≡ c) ⊎ (suc c ≤ k)
 least c k h = go (eqb k c) refl
@@ -351,30 +430,18 @@ module _ (mode : ℕ) (rd : Reader) (i : ℕ) (fits : (w : ℕ) → 1 ≤ w → 
       (λ e. let c = count-in rd i 1 (is 1 22 e) fit-1 in
       Entry.for-all-types e (c .0) (c .1) (formula-in rd i 2 (is 2 22 e) fit-2) (zero-in rd i 3 (is 3 22 e) fit-3))
 
-  rule-in : mode ≡ 1 → between 32 46 (rd i 0) ≡ true → Entry mode rd i
+  rule-entry : RuleKind mode (rd i 0) → Entry mode rd i
   unfolding role ifEq ifLt
-  rule-in m h =
-      let b = between-parts 32 46 (rd i 0) h in
-      let rule : (w : ℕ) → roleAt rd i w ≡ ruleRole w = λ w. role-known rd i w (rd i 0) refl ∙ rule-role (rd i 0) (b .0) w in
-      Entry.rule-node m (b .0) (b .1) (rule-chain-in rd i 1 (rule 1) fit-1) (rule-chain-in rd i 2 (rule 2) fit-2) (zero-in rd i 3 (rule 3) fit-3)
+  rule-entry r =
+      let rule : (w : ℕ) → roleAt rd i w ≡ ruleRole w = λ w. role-known rd i w (rd i 0) refl ∙ rule-role (rd i 0) (rule-least r) w in
+      Entry.rule-node r (rule-chain-in rd i 1 (rule 1) fit-1) (rule-chain-in rd i 2 (rule 2) fit-2) (zero-in rd i 3 (rule 3) fit-3)
 
-  pub entry-in : isKind mode (rd i 0) ≡ true → (mode ≡ 2 → ⊥) → Entry mode rd i
-  unfolding isKind isRule ifLt ifEq
-  entry-in h other = go (ltb (rd i 0) 23) refl (eqb mode 1) refl (eqb mode 2) refl h
-    where
-      go : (a : Bool) → ltb (rd i 0) 23 ≡ a → (b : Bool) → eqb mode 1 ≡ b → (c : Bool) → eqb mode 2 ≡ c →
-          _≡_ {A = Bool}
-          (elim a [
-            | true ↦ ltb 0 (rd i 0)
-            | false ↦ elim b [ true ↦ between 32 46 (rd i 0) | false ↦ elim c [ true ↦ between 64 80 (rd i 0) | false ↦ false ] ]
-          ]) true → Entry mode rd i
-      go true ea b eb c ec h = let l = ltb-true (rd i 0) 23 ea in table-in (ltb-true 0 (rd i 0) h) (omega arith)
-      go false ea true eb c ec h = rule-in (eqb-true mode 1 eb) h
-      go false ea false eb true ec h = absurd (other (eqb-true mode 2 ec))
-      go false ea false eb false ec h = absurd (false≢true h)
+  pub entry-in : Kind mode (rd i 0) → Entry mode rd i
+  entry-in (Kind.table low high) = table-in low high
+  entry-in (Kind.rule r) = rule-entry r
 
 -- and the other way round
-three-words : (rd : Reader) (i : ℕ) → Fit rd i 1 → Fit rd i 2 → Fit rd i 3 → (w : ℕ) → 1 ≤ w → w ≤ 3 → Fit rd i w
+pub three-words : (rd : Reader) (i : ℕ) → Fit rd i 1 → Fit rd i 2 → Fit rd i 3 → (w : ℕ) → 1 ≤ w → w ≤ 3 → Fit rd i w
 three-words rd i a b c zero p q = absurd (omega arith)
 three-words rd i a b c (suc zero) p q = a
 three-words rd i a b c (suc (suc zero)) p q = b
@@ -431,37 +498,197 @@ entry-out {mode} {rd} {i} (Entry.membership e x y z) =
 entry-out {mode} {rd} {i} (Entry.for-all-types e x y z u) =
     three-words rd i (count-out rd i 1 (role-known rd i 1 22 e) x y) (formula-out rd i 2 (role-known rd i 2 22 e) z)
     (zero-out rd i 3 (role-known rd i 3 22 e) u)
-entry-out {mode} {rd} {i} (Entry.rule-node m low high x y z) =
-    let rule : (w : ℕ) → roleAt rd i w ≡ ruleRole w = λ w. role-known rd i w (rd i 0) refl ∙ rule-role (rd i 0) low w in
+entry-out {mode} {rd} {i} (Entry.rule-node r x y z) =
+    let rule : (w : ℕ) → roleAt rd i w ≡ ruleRole w = λ w. role-known rd i w (rd i 0) refl ∙ rule-role (rd i 0) (rule-least r) w in
     three-words rd i (rule-chain-out rd i 1 (rule 1) x) (rule-chain-out rd i 2 (rule 2) y) (zero-out rd i 3 (rule 3) z)
 
-pub entry-kind : {mode : ℕ} {rd : Reader} {i : ℕ} → Entry mode rd i → isKind mode (rd i 0) ≡ true
-unfolding isKind isRule ifLt ifEq
-entry-kind {mode} (Entry.link e x y z) = ap (isKind mode) e
-entry-kind {mode} (Entry.name-record e x) = ap (isKind mode) e
-entry-kind {mode} (Entry.given-type e x y z) = ap (isKind mode) e
-entry-kind {mode} (Entry.set-type e x y z) = ap (isKind mode) e
-entry-kind {mode} (Entry.pair-type e x y z) = ap (isKind mode) e
-entry-kind {mode} (Entry.type-variable e x y z) = ap (isKind mode) e
-entry-kind {mode} (Entry.constant e x y z) = ap (isKind mode) e
-entry-kind {mode} (Entry.function e x y z) = ap (isKind mode) e
-entry-kind {mode} (Entry.bound-variable e x y z) = ap (isKind mode) e
-entry-kind {mode} (Entry.pair e x y z) = ap (isKind mode) e
-entry-kind {mode} (Entry.product e x y z) = ap (isKind mode) e
-entry-kind {mode} (Entry.powerset e x y z) = ap (isKind mode) e
-entry-kind {mode} (Entry.application e x y z) = ap (isKind mode) e
-entry-kind {mode} (Entry.falsity e x y z) = ap (isKind mode) e
-entry-kind {mode} (Entry.truth e x y z) = ap (isKind mode) e
-entry-kind {mode} (Entry.conjunction e x y z) = ap (isKind mode) e
-entry-kind {mode} (Entry.implication e x y z) = ap (isKind mode) e
-entry-kind {mode} (Entry.negation e x y z) = ap (isKind mode) e
-entry-kind {mode} (Entry.universal e x y z) = ap (isKind mode) e
-entry-kind {mode} (Entry.equation e x y z) = ap (isKind mode) e
-entry-kind {mode} (Entry.membership e x y z) = ap (isKind mode) e
-entry-kind {mode} (Entry.for-all-types e x y z u) = ap (isKind mode) e
-entry-kind {mode} {rd} {i} (Entry.rule-node m low high x y z) =
-    when-not-less (ltb 0 (rd i 0)) (isRule mode (rd i 0)) (rd i 0) 23 (omega arith)
-    ∙ ap (λ (o : ℕ). isRule o (rd i 0)) m ∙ between-out 32 46 (rd i 0) low high
+pub entry-kind : {mode : ℕ} {rd : Reader} {i : ℕ} → Entry mode rd i → Kind mode (rd i 0)
+entry-kind (Entry.link e x y z) = Kind.table (omega arith) (omega arith)
+entry-kind (Entry.name-record e x) = Kind.table (omega arith) (omega arith)
+entry-kind (Entry.given-type e x y z) = Kind.table (omega arith) (omega arith)
+entry-kind (Entry.set-type e x y z) = Kind.table (omega arith) (omega arith)
+entry-kind (Entry.pair-type e x y z) = Kind.table (omega arith) (omega arith)
+entry-kind (Entry.type-variable e x y z) = Kind.table (omega arith) (omega arith)
+entry-kind (Entry.constant e x y z) = Kind.table (omega arith) (omega arith)
+entry-kind (Entry.function e x y z) = Kind.table (omega arith) (omega arith)
+entry-kind (Entry.bound-variable e x y z) = Kind.table (omega arith) (omega arith)
+entry-kind (Entry.pair e x y z) = Kind.table (omega arith) (omega arith)
+entry-kind (Entry.product e x y z) = Kind.table (omega arith) (omega arith)
+entry-kind (Entry.powerset e x y z) = Kind.table (omega arith) (omega arith)
+entry-kind (Entry.application e x y z) = Kind.table (omega arith) (omega arith)
+entry-kind (Entry.falsity e x y z) = Kind.table (omega arith) (omega arith)
+entry-kind (Entry.truth e x y z) = Kind.table (omega arith) (omega arith)
+entry-kind (Entry.conjunction e x y z) = Kind.table (omega arith) (omega arith)
+entry-kind (Entry.implication e x y z) = Kind.table (omega arith) (omega arith)
+entry-kind (Entry.negation e x y z) = Kind.table (omega arith) (omega arith)
+entry-kind (Entry.universal e x y z) = Kind.table (omega arith) (omega arith)
+entry-kind (Entry.equation e x y z) = Kind.table (omega arith) (omega arith)
+entry-kind (Entry.membership e x y z) = Kind.table (omega arith) (omega arith)
+entry-kind (Entry.for-all-types e x y z u) = Kind.table (omega arith) (omega arith)
+entry-kind (Entry.rule-node r x y z) = Kind.rule r
+
+-- The same of the tests of range alone.
+module _ (mode : ℕ) (rd : Reader) (i : ℕ) (fit-1 : rangeAt rd i 1 ≡ true) (fit-2 : rangeAt rd i 2 ≡ true) (fit-3 : rangeAt rd i 3 ≡ true) where
+  role-at : (w k : ℕ) → rd i 0 ≡ k → roleAt rd i w ≡ role k w
+  role-at w k e = role-known rd i w k e
+
+  table-ranges : 1 ≤ rd i 0 → rd i 0 ≤ 22 → Ranges mode rd i
+  unfolding role ifLt ifEq
+  table-ranges low high =
+      by-kind (rd i 0) low high
+      (λ e. Ranges.link e (zero-range rd i 2 (role-at 2 1 e) fit-2))
+      (λ e. Ranges.name-record e)
+      (λ e. Ranges.given-type e (zero-range rd i 2 (role-at 2 3 e) fit-2) (zero-range rd i 3 (role-at 3 3 e) fit-3))
+      (λ e. Ranges.set-type e (zero-range rd i 2 (role-at 2 4 e) fit-2) (zero-range rd i 3 (role-at 3 4 e) fit-3))
+      (λ e. Ranges.pair-type e (zero-range rd i 3 (role-at 3 5 e) fit-3))
+      (λ e. Ranges.type-variable e
+      (three-range rd i 1 (role-at 1 6 e) fit-1) (zero-range rd i 2 (role-at 2 6 e) fit-2) (zero-range rd i 3 (role-at 3 6 e) fit-3))
+      (λ e. Ranges.constant e (zero-range rd i 3 (role-at 3 7 e) fit-3))
+      (λ e. Ranges.function e (four-range rd i 2 (role-at 2 8 e) fit-2))
+      (λ e. Ranges.bound-variable e (index-range rd i 1 (role-at 1 9 e) fit-1) (zero-range rd i 3 (role-at 3 9 e) fit-3))
+      (λ e. Ranges.pair e)
+      (λ e. Ranges.product e)
+      (λ e. Ranges.powerset e (zero-range rd i 3 (role-at 3 12 e) fit-3))
+      (λ e. Ranges.application e)
+      (λ e. Ranges.falsity e (zero-range rd i 1 (role-at 1 14 e) fit-1) (zero-range rd i 2 (role-at 2 14 e) fit-2) (zero-range rd i 3 (role-at 3 14 e) fit-3))
+      (λ e. Ranges.truth e (zero-range rd i 1 (role-at 1 15 e) fit-1) (zero-range rd i 2 (role-at 2 15 e) fit-2) (zero-range rd i 3 (role-at 3 15 e) fit-3))
+      (λ e. Ranges.conjunction e (zero-range rd i 3 (role-at 3 16 e) fit-3))
+      (λ e. Ranges.implication e (zero-range rd i 3 (role-at 3 17 e) fit-3))
+      (λ e. Ranges.negation e (zero-range rd i 2 (role-at 2 18 e) fit-2) (zero-range rd i 3 (role-at 3 18 e) fit-3))
+      (λ e. Ranges.universal e (zero-range rd i 3 (role-at 3 19 e) fit-3))
+      (λ e. Ranges.equation e (zero-range rd i 3 (role-at 3 20 e) fit-3))
+      (λ e. Ranges.membership e (zero-range rd i 3 (role-at 3 21 e) fit-3))
+      (λ e. let c = count-range rd i 1 (role-at 1 22 e) fit-1 in
+      Ranges.for-all-types e (c .0) (c .1) (zero-range rd i 3 (role-at 3 22 e) fit-3))
+
+  pub ranges-in : Kind mode (rd i 0) → Ranges mode rd i
+  unfolding role ifLt ifEq
+  ranges-in (Kind.table low high) = table-ranges low high
+  ranges-in (Kind.rule r) =
+      Ranges.rule-node r (zero-range rd i 3 (role-known rd i 3 (rd i 0) refl ∙ rule-role (rd i 0) (rule-least r) 3) fit-3)
+
+three-words-range : (rd : Reader) (i : ℕ) → rangeAt rd i 1 ≡ true → rangeAt rd i 2 ≡ true → rangeAt rd i 3 ≡ true → rangesFit rd i ≡ true
+unfolding rangesFit
+three-words-range rd i a b c = both-join _ _ a (both-join _ _ b c)
+
+pub ranges-out : {mode : ℕ} {rd : Reader} {i : ℕ} → Ranges mode rd i → rangesFit rd i ≡ true
+unfolding role ifLt ifEq inRange
+ranges-out {mode} {rd} {i} (Ranges.link e x) =
+    three-words-range rd i (range-out rd i 1 10 (role-known rd i 1 1 e) refl)
+    (range-out rd i 2 0 (role-known rd i 2 1 e) (range-zero rd i 2 x))
+    (range-out rd i 3 11 (role-known rd i 3 1 e) refl)
+ranges-out {mode} {rd} {i} (Ranges.name-record e) =
+    three-words-range rd i (range-out rd i 1 1 (role-known rd i 1 2 e) refl)
+    (range-out rd i 2 1 (role-known rd i 2 2 e) refl)
+    (range-out rd i 3 7 (role-known rd i 3 2 e) refl)
+ranges-out {mode} {rd} {i} (Ranges.given-type e x y) =
+    three-words-range rd i (range-out rd i 1 6 (role-known rd i 1 3 e) refl)
+    (range-out rd i 2 0 (role-known rd i 2 3 e) (range-zero rd i 2 x))
+    (range-out rd i 3 0 (role-known rd i 3 3 e) (range-zero rd i 3 y))
+ranges-out {mode} {rd} {i} (Ranges.set-type e x y) =
+    three-words-range rd i (range-out rd i 1 12 (role-known rd i 1 4 e) refl)
+    (range-out rd i 2 0 (role-known rd i 2 4 e) (range-zero rd i 2 x))
+    (range-out rd i 3 0 (role-known rd i 3 4 e) (range-zero rd i 3 y))
+ranges-out {mode} {rd} {i} (Ranges.pair-type e x) =
+    three-words-range rd i (range-out rd i 1 12 (role-known rd i 1 5 e) refl)
+    (range-out rd i 2 12 (role-known rd i 2 5 e) refl)
+    (range-out rd i 3 0 (role-known rd i 3 5 e) (range-zero rd i 3 x))
+ranges-out {mode} {rd} {i} (Ranges.type-variable e x y z) =
+    three-words-range rd i (range-out rd i 1 2 (role-known rd i 1 6 e) (range-three rd i 1 x))
+    (range-out rd i 2 0 (role-known rd i 2 6 e) (range-zero rd i 2 y))
+    (range-out rd i 3 0 (role-known rd i 3 6 e) (range-zero rd i 3 z))
+ranges-out {mode} {rd} {i} (Ranges.constant e x) =
+    three-words-range rd i (range-out rd i 1 12 (role-known rd i 1 7 e) refl)
+    (range-out rd i 2 6 (role-known rd i 2 7 e) refl)
+    (range-out rd i 3 0 (role-known rd i 3 7 e) (range-zero rd i 3 x))
+ranges-out {mode} {rd} {i} (Ranges.function e x) =
+    three-words-range rd i (range-out rd i 1 9 (role-known rd i 1 8 e) refl)
+    (range-out rd i 2 3 (role-known rd i 2 8 e) (range-four rd i 2 x))
+    (range-out rd i 3 6 (role-known rd i 3 8 e) refl)
+ranges-out {mode} {rd} {i} (Ranges.bound-variable e x y) =
+    three-words-range rd i (range-out rd i 1 4 (role-known rd i 1 9 e) (range-index rd i 1 x))
+    (range-out rd i 2 12 (role-known rd i 2 9 e) refl)
+    (range-out rd i 3 0 (role-known rd i 3 9 e) (range-zero rd i 3 y))
+ranges-out {mode} {rd} {i} (Ranges.pair e) =
+    three-words-range rd i (range-out rd i 1 13 (role-known rd i 1 10 e) refl)
+    (range-out rd i 2 13 (role-known rd i 2 10 e) refl)
+    (range-out rd i 3 12 (role-known rd i 3 10 e) refl)
+ranges-out {mode} {rd} {i} (Ranges.product e) =
+    three-words-range rd i (range-out rd i 1 13 (role-known rd i 1 11 e) refl)
+    (range-out rd i 2 13 (role-known rd i 2 11 e) refl)
+    (range-out rd i 3 12 (role-known rd i 3 11 e) refl)
+ranges-out {mode} {rd} {i} (Ranges.powerset e x) =
+    three-words-range rd i (range-out rd i 1 13 (role-known rd i 1 12 e) refl)
+    (range-out rd i 2 12 (role-known rd i 2 12 e) refl)
+    (range-out rd i 3 0 (role-known rd i 3 12 e) (range-zero rd i 3 x))
+ranges-out {mode} {rd} {i} (Ranges.application e) =
+    three-words-range rd i (range-out rd i 1 15 (role-known rd i 1 13 e) refl)
+    (range-out rd i 2 16 (role-known rd i 2 13 e) refl)
+    (range-out rd i 3 17 (role-known rd i 3 13 e) refl)
+ranges-out {mode} {rd} {i} (Ranges.falsity e x y z) =
+    three-words-range rd i (range-out rd i 1 0 (role-known rd i 1 14 e) (range-zero rd i 1 x))
+    (range-out rd i 2 0 (role-known rd i 2 14 e) (range-zero rd i 2 y))
+    (range-out rd i 3 0 (role-known rd i 3 14 e) (range-zero rd i 3 z))
+ranges-out {mode} {rd} {i} (Ranges.truth e x y z) =
+    three-words-range rd i (range-out rd i 1 0 (role-known rd i 1 15 e) (range-zero rd i 1 x))
+    (range-out rd i 2 0 (role-known rd i 2 15 e) (range-zero rd i 2 y))
+    (range-out rd i 3 0 (role-known rd i 3 15 e) (range-zero rd i 3 z))
+ranges-out {mode} {rd} {i} (Ranges.conjunction e x) =
+    three-words-range rd i (range-out rd i 1 14 (role-known rd i 1 16 e) refl)
+    (range-out rd i 2 14 (role-known rd i 2 16 e) refl)
+    (range-out rd i 3 0 (role-known rd i 3 16 e) (range-zero rd i 3 x))
+ranges-out {mode} {rd} {i} (Ranges.implication e x) =
+    three-words-range rd i (range-out rd i 1 14 (role-known rd i 1 17 e) refl)
+    (range-out rd i 2 14 (role-known rd i 2 17 e) refl)
+    (range-out rd i 3 0 (role-known rd i 3 17 e) (range-zero rd i 3 x))
+ranges-out {mode} {rd} {i} (Ranges.negation e x y) =
+    three-words-range rd i (range-out rd i 1 14 (role-known rd i 1 18 e) refl)
+    (range-out rd i 2 0 (role-known rd i 2 18 e) (range-zero rd i 2 x))
+    (range-out rd i 3 0 (role-known rd i 3 18 e) (range-zero rd i 3 y))
+ranges-out {mode} {rd} {i} (Ranges.universal e x) =
+    three-words-range rd i (range-out rd i 1 12 (role-known rd i 1 19 e) refl)
+    (range-out rd i 2 14 (role-known rd i 2 19 e) refl)
+    (range-out rd i 3 0 (role-known rd i 3 19 e) (range-zero rd i 3 x))
+ranges-out {mode} {rd} {i} (Ranges.equation e x) =
+    three-words-range rd i (range-out rd i 1 13 (role-known rd i 1 20 e) refl)
+    (range-out rd i 2 13 (role-known rd i 2 20 e) refl)
+    (range-out rd i 3 0 (role-known rd i 3 20 e) (range-zero rd i 3 x))
+ranges-out {mode} {rd} {i} (Ranges.membership e x) =
+    three-words-range rd i (range-out rd i 1 13 (role-known rd i 1 21 e) refl)
+    (range-out rd i 2 13 (role-known rd i 2 21 e) refl)
+    (range-out rd i 3 0 (role-known rd i 3 21 e) (range-zero rd i 3 x))
+ranges-out {mode} {rd} {i} (Ranges.for-all-types e p q x) =
+    three-words-range rd i (range-out rd i 1 5 (role-known rd i 1 22 e) (range-count rd i 1 p q))
+    (range-out rd i 2 14 (role-known rd i 2 22 e) refl)
+    (range-out rd i 3 0 (role-known rd i 3 22 e) (range-zero rd i 3 x))
+ranges-out {mode} {rd} {i} (Ranges.rule-node r z) =
+    let rule : (w : ℕ) → roleAt rd i w ≡ ruleRole w = λ w. role-known rd i w (rd i 0) refl ∙ rule-role (rd i 0) (rule-least r) w in
+    three-words-range rd i (range-out rd i 1 8 (rule 1) refl) (range-out rd i 2 8 (rule 2) refl) (range-out rd i 3 0 (rule 3) (range-zero rd i 3 z))
+
+pub ranges-kind : {mode : ℕ} {rd : Reader} {i : ℕ} → Ranges mode rd i → Kind mode (rd i 0)
+ranges-kind (Ranges.link e x) = Kind.table (omega arith) (omega arith)
+ranges-kind (Ranges.name-record e) = Kind.table (omega arith) (omega arith)
+ranges-kind (Ranges.given-type e x y) = Kind.table (omega arith) (omega arith)
+ranges-kind (Ranges.set-type e x y) = Kind.table (omega arith) (omega arith)
+ranges-kind (Ranges.pair-type e x) = Kind.table (omega arith) (omega arith)
+ranges-kind (Ranges.type-variable e x y z) = Kind.table (omega arith) (omega arith)
+ranges-kind (Ranges.constant e x) = Kind.table (omega arith) (omega arith)
+ranges-kind (Ranges.function e x) = Kind.table (omega arith) (omega arith)
+ranges-kind (Ranges.bound-variable e x y) = Kind.table (omega arith) (omega arith)
+ranges-kind (Ranges.pair e) = Kind.table (omega arith) (omega arith)
+ranges-kind (Ranges.product e) = Kind.table (omega arith) (omega arith)
+ranges-kind (Ranges.powerset e x) = Kind.table (omega arith) (omega arith)
+ranges-kind (Ranges.application e) = Kind.table (omega arith) (omega arith)
+ranges-kind (Ranges.falsity e x y z) = Kind.table (omega arith) (omega arith)
+ranges-kind (Ranges.truth e x y z) = Kind.table (omega arith) (omega arith)
+ranges-kind (Ranges.conjunction e x) = Kind.table (omega arith) (omega arith)
+ranges-kind (Ranges.implication e x) = Kind.table (omega arith) (omega arith)
+ranges-kind (Ranges.negation e x y) = Kind.table (omega arith) (omega arith)
+ranges-kind (Ranges.universal e x) = Kind.table (omega arith) (omega arith)
+ranges-kind (Ranges.equation e x) = Kind.table (omega arith) (omega arith)
+ranges-kind (Ranges.membership e x) = Kind.table (omega arith) (omega arith)
+ranges-kind (Ranges.for-all-types e x y z) = Kind.table (omega arith) (omega arith)
+ranges-kind (Ranges.rule-node r z) = Kind.rule r
 
 -- chain lengths
 pub chains-in : (rd : Reader) (i : ℕ) → nameLengthFits rd i ≡ true → itemChainsFit rd i ≡ true → ChainLengths rd i
@@ -521,6 +748,20 @@ weighed-in k h = go (eqb (class k) 3) refl (eqb (class k) 4) refl (eqb (class k)
     go false p false q true r d s h = Weighed.formula (eqb-true _ 5 r)
     go false p false q false r true s h = Weighed.for-all-types (eqb-true _ 7 s)
     go false p false q false r false s h = absurd (false≢true h)
+
+-- weights that are allowed
+pub light-in : (mode w : ℕ) → w ≤ mostWeight mode → Light mode w
+unfolding mostWeight ifEq
+light-in mode w h = go (eqb mode 2) refl h
+  where
+    go : (b : Bool) → eqb mode 2 ≡ b → w ≤ elim b as (λ x. ℕ) [ true ↦ 16384 | false ↦ 4096 ] → Light mode w
+    go true e h = Light.in-derivation (eqb-true mode 2 e) h
+    go false e h = Light.elsewhere (eqb-false mode 2 e) h
+
+pub light-out : {mode w : ℕ} → Light mode w → w ≤ mostWeight mode
+unfolding mostWeight
+light-out {mode} {w} (Light.elsewhere other h) = let e : mostWeight mode ≡ 4096 = when-different 16384 4096 mode 2 other in rw e h
+light-out {mode} {w} (Light.in-derivation m h) = let e : mostWeight mode ≡ 16384 = when-equal 16384 4096 mode 2 m in rw e h
 
 -- What the words of a record that passes its tests give.
 module _ (rd : Reader) (i : ℕ) (fits : (w : ℕ) → 1 ≤ w → w ≤ 3 → Fit rd i w) where

@@ -9,7 +9,7 @@ use Rattle.reader.specs.Chains.{itemTrees}
 use Rattle.reader.specs.Variables.{instance}
 use Rattle.reader.specs.Typing.{typeOf, signature}
 use Rattle.reader.specs.Notions.{Every, TypesBelow, Bears}
-use Rattle.proof_meaning.specs.Signs.{constantᵗ}
+use Rattle.reader_meaning.specs.Signs.{constantᵗ}
 
 -- "an application fits its signature with the type arguments put in": its own type, its type arguments as many as the function's parameters, and own type and
 -- arguments' types the signature's, one by one

@@ -18,8 +18,9 @@ use Rattle.reader.specs.Typing.{constantTyped, signature, functionTyped, applic
 use Rattle.reader_laws.specs.Scan.{both-parts, both-join}
 use Rattle.reader.specs.Notions.{TypesBelow}
 use Rattle.reader_laws.specs.NotionLaws.{every-in, every-out, types-in, types-out, bears-in, bears-out}
-use Rattle.proof_meaning.specs.Forms.{kind-is, constant-made, pair-made, product-made, powerset-made, for-all-made, equal-made, member-made, set-made}
-use Rattle.proof_meaning.specs.Typed.{Applied, Typed}
+use Rattle.reader_meaning.specs.TreeForms.{kind-is, constant-made, pair-made, product-made, powerset-made}
+use Rattle.reader_meaning.specs.TreeForms.{for-all-made, equal-made, member-made, set-made}
+use Rattle.reader_meaning.specs.Typed.{Applied, Typed}
 
 -- what record j says, or nothing, is a type of a tree of a record
 first-record : (rd : Reader) (j : ℕ) → (l : ℕ) × (firstOf (tree rd j) ≡ tree rd l)

@@ -16,8 +16,8 @@ use Rattle.reader_laws.specs.Scan.{both-parts, both-join, either-parts, between
 use Rattle.reader_laws.specs.Record.{smaller-name-differs}
 use Rattle.reader.specs.Notions.{here, there, Every}
 use Rattle.reader_laws.specs.NotionLaws.{every-0, every-more, every-in, every-out, not-so, failed, either-first, either-second}
-use Rattle.proof_meaning.specs.Spelling.{Letter, DigitOrUnderscore, Accented, Spelled, SpelledName, GoodName, ConstantOrFunction, Symbol}
-use Rattle.proof_meaning.specs.TableLaws.{between-out}
+use Rattle.reader_meaning.specs.Spelling.{Letter, DigitOrUnderscore, Accented, Spelled, SpelledName, GoodName, ConstantOrFunction, Symbol}
+use Rattle.reader_meaning.specs.TableLaws.{between-out}
 
 -- bytes
 letter-in : (b : ℕ) → isLetter b ≡ true → Letter b
