@@ -87,6 +87,7 @@ impl Tally {
     /// Prints the counts; panics if there was a difference.
     pub fn report(&self, what: &str) {
         println!("{what}: {} cases, {}", self.cases, self.counts());
+        assert!(self.cases > 0, "{what}: no case was tried");
         assert!(
             self.differences == 0,
             "{what}: {} differ\n{}",

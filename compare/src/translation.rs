@@ -238,6 +238,10 @@ impl Trials {
             self.short
         );
         assert!(
+            self.accepted + self.refused > 0,
+            "{what}: no pair was tried"
+        );
+        assert!(
             self.faults == 0,
             "{what}: {} calls are wrong\n{}",
             self.faults,

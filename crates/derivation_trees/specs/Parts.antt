@@ -181,7 +181,3 @@ module _ (rd : Reader) (size key r : ℕ) (t : Tree) where
   pub second-is : Part rd size key r (partOf 2 t) → Part rd size key r (secondOf t)
   unfolding partOf ifEq
   second-is p = p
-
-  pub third-is : Part rd size key r (partOf 3 t) → Part rd size key r (thirdOf t)
-  unfolding partOf ifEq
-  third-is p = p

@@ -6,7 +6,7 @@ ghost use mathlib.Core.Path.{_≡_};
 ghost use Prim.Native.Nat.{_<_};
 ghost use lib.ListN.{length};
 ghost use Rattle.reader.specs.Words.{word};
-ghost use Rattle.reader.specs.Trees.{kindOf, atomOf, firstOf, secondOf, thirdOf};
+ghost use Rattle.reader.specs.Trees.{kindOf, atomOf, firstOf, secondOf};
 ghost use Rattle.derivation_trees.specs.Keys.{decoded, Normal};
 ghost use Rattle.derivation_trees.specs.Table.{Table};
 ghost use Rattle.derivation_trees.specs.Parts.{Part, partOf};
@@ -82,12 +82,4 @@ pub fn second_of(obligation: &[u8], second: &[u8], m: usize, keys: &[usize], key
     ensures { λ r. ⌜ Part (word (now (obligation .entry)) (now (second .entry)) m) (length (now (keys .entry))) key r (secondOf (decoded (word (now (obligation .entry)) (now (second .entry)) m) key)) ⌝ }
 {
     part_of(obligation, second, m, keys, key, 2)
-}
-
-// The key of the third part.
-pub fn third_of(obligation: &[u8], second: &[u8], m: usize, keys: &[usize], key: usize) -> usize
-    requires { ⌜ Table (word (now obligation) (now second) m) (now keys) × Normal (word (now obligation) (now second) m) (length (now keys)) key ⌝ }
-    ensures { λ r. ⌜ Part (word (now (obligation .entry)) (now (second .entry)) m) (length (now (keys .entry))) key r (thirdOf (decoded (word (now (obligation .entry)) (now (second .entry)) m) key)) ⌝ }
-{
-    part_of(obligation, second, m, keys, key, 3)
 }

@@ -1,9 +1,13 @@
 // `desk_derivation OBLIGATION DERIVATION` checks a derivation against its obligation, and writes the answer's four numbers on one line.
 use derivation_check::check;
 use programs::files;
-use programs::lines;
+use programs::output;
+use programs_lines::lines;
+ghost use mathlib.Core.Path.{_≡_};
+ghost use lib.ListN.{length};
 ghost use Rattle.derivation_rules.specs.Check.{derivationAnswer};
-ghost use Rattle.programs.specs.Lines.{EndsIn};
+ghost use Rattle.programs_lines.specs.Lines.{line, EndsIn};
+ghost use Rattle.desk_derivation.specs.Enough.{obligationRead, derivationRead};
 
 // Writes the line of the answer to two files at the end of the area; where it begins.
 fn put_answer(obligation: &[u8], derivation: &[u8], out: &mut [u8; 84]) -> usize
@@ -12,15 +16,24 @@ fn put_answer(obligation: &[u8], derivation: &[u8], out: &mut [u8; 84]) -> usize
     lines::put_line(out, check::check_derivation(obligation, derivation))
 }
 
-// Writes the line of the answer to two files to standard output.
+// Writes to standard output bytes that are the line of the answer to two files, as its caller shows.
+fn write_answer(obligation: &[u8], derivation: &[u8], text: &[u8])
+    requires { ⌜ now text ≡ line (derivationAnswer (now obligation) (now derivation)) ⌝ }
+{
+    output::print(text);
+}
+
+// Answers two files.
 fn print_answer(obligation: &[u8], derivation: &[u8]) {
     let mut out = [0u8; 84];
     let begin = put_answer(obligation, derivation, &mut out);
-    lines::print(&out[begin..]);
+    write_answer(obligation, derivation, &out[begin..]);
 }
 
-// Reads both files into the areas, and writes the line of their answer to standard output.
-fn answer_files(obligation: &mut [u8], derivation: &mut [u8]) {
+// Reads both files into the areas, one byte more of each than an accepted one has, and answers what stands there.
+fn answer_files(obligation: &mut [u8], derivation: &mut [u8])
+    requires { ⌜ (length (now obligation) ≡ obligationRead) × (length (now derivation) ≡ derivationRead) ⌝ }
+{
     let first = files::load(1, obligation);
     if !first.fine {
         return;
@@ -34,7 +47,6 @@ fn answer_files(obligation: &mut [u8], derivation: &mut [u8]) {
     print_answer(&obligation[..m], &derivation[..n]);
 }
 
-// One byte more is read of each file than an accepted one has.
 fn main() {
     if os::arg_count() != 3 {
         io::write_all(

@@ -1,16 +1,20 @@
 -- What the program makes of two files: the translation in the buffer, and the line that it writes.
-use Prim.Native.Nat.{ℕ}
-use mathlib.Core.Path.{_≡_, ap}
+use Prim.Native.Nat.{ℕ, _-_}
+use mathlib.Core.Path.{_≡_, sym, ap, _∙_}
 use mathlib.Core.List.{List}
-use lib.ListN.{length}
+use lib.ListN.{length, take, drop}
 use native.Mathlib.Omega.{arith}
 use Rattle.io.specs.Counts.{Counts}
 use Rattle.io.proofs.Counting.{counts}
 use Rattle.reader.specs.declared.Answer.{Answer}
+use Rattle.reader.specs.Answers.{accepted}
+use Rattle.proof_rules.specs.Check.{proofAnswer}
+use Rattle.derivation_rules.specs.Check.{derivationAnswer}
 use Rattle.translation_rules.specs.Check.{translationAnswer}
 use Rattle.translation_meaning.specs.Translates.{Translates}
-use Rattle.programs.specs.Lines.{TranslationEndsIn}
-use Rattle.programs.specs.LineLaws.{translation-ends-in-equal}
+use Rattle.programs_lines.specs.Lines.{translationLine, TranslationEndsIn}
+use Rattle.programs_lines.specs.LineLaws.{translation-ends-in-equal, translation-slice}
+use Rattle.desk_translate.specs.Enough.{bufferSize, room-for-all}
 
 -- A pair is translated into a buffer that held `before` and holds `after`; the line of the answer and the length stands in `out` from place `begin` on.
 pub record Shown (ob pf before after out : List ℕ) (refusal len begin : ℕ) : Type 0 where
@@ -21,6 +25,10 @@ pub record Shown (ob pf before after out : List ℕ) (refusal len begin : ℕ) :
   pub line-is : TranslationEndsIn (translationAnswer ob pf (length before)) len out begin
   pub inside : Counts len after
 
+-- the derivation check accepts the bytes beside the obligation
+abbrev pub Derives : List ℕ → List ℕ → Type 0
+Derives ob dv = (j : ℕ) × (derivationAnswer ob dv ≡ accepted j)
+
 -- the translation's own contract, and the line of the answer that it gives
 pub shown : (ob pf before after out : List ℕ) (a : Answer) (len begin : ℕ) → Translates ob pf before after a len
     → TranslationEndsIn a len out begin → length before ≡ length after → Shown ob pf before after out (a .refusal) len begin
@@ -30,3 +38,15 @@ shown ob pf before after out a len begin t l e = record {
   line-is = translation-ends-in-equal a _ len out begin (t .answers) l;
   inside = counts len after (omega (arith, t .within));
 }
+
+-- What is saved and written, for a buffer of the program's size.
+module _ (ob pf before after out : List ℕ) (refusal len begin : ℕ) (s : Shown ob pf before after out refusal len begin) where
+  -- where the refusal is 0 the buffer's bytes up to the length are a derivation
+  pub saved-derives : refusal ≡ 0 → Derives ob (take len after)
+  saved-derives none = s .translated .derived (sym (s .refusal-is) ∙ none)
+
+  -- the line is that of the proof check's answer
+  pub written-line : length before ≡ bufferSize → take (105 - begin) (drop begin out) ≡ translationLine (proofAnswer ob pf) len
+  written-line size =
+      let same : translationAnswer ob pf (length before) ≡ proofAnswer ob pf = ap (translationAnswer ob pf) size ∙ room-for-all ob pf in
+      translation-slice _ len out begin (s .line-is) ∙ ap (λ (a : Answer). translationLine a len) same

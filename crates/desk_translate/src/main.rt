@@ -1,10 +1,16 @@
 // `desk_translate OBLIGATION PROOF DERIVATION` translates an accepted proof into a derivation, writes it to a file of that name, and writes the answer's
 // four numbers and the derivation's length on one line.
 use programs::files;
-use programs::lines;
+use programs::output;
 use programs::saved;
+use programs_lines::lines;
 use translation::translate;
-ghost use Rattle.desk_translate.specs.Shown.{Shown};
+ghost use mathlib.Core.Path.{_≡_};
+ghost use lib.ListN.{length as size};
+ghost use Rattle.proof_rules.specs.Check.{proofAnswer};
+ghost use Rattle.programs_lines.specs.Lines.{translationLine};
+ghost use Rattle.desk_translate.specs.Enough.{obligationRead, proofRead, bufferSize};
+ghost use Rattle.desk_translate.specs.Shown.{Shown, Derives};
 
 // What came of a pair: the answer's refusal, the derivation's length in the buffer, and where the line begins.
 struct Outcome {
@@ -29,18 +35,34 @@ fn put_answer(obligation: &[u8], proof: &[u8], buffer: &mut [u8], out: &mut [u8;
     }
 }
 
+// Saves bytes that the derivation check accepts beside the obligation, as its caller shows; whether it is done.
+fn save_derivation(obligation: &[u8], derivation: &[u8]) -> bool
+    requires { ⌜ Derives (now obligation) (now derivation) ⌝ }
+{
+    saved::save(3, derivation)
+}
+
+// Writes to standard output bytes that are the line of the proof check's answer to two files and of a length, as its caller shows.
+fn write_answer(obligation: &[u8], proof: &[u8], length: usize, text: &[u8])
+    requires { ⌜ now text ≡ translationLine (proofAnswer (now obligation) (now proof)) length ⌝ }
+{
+    output::print(text);
+}
+
 // Saves the derivation of an accepted pair, and then writes the line of the answer: where the file can't be written there is no line.
-fn answer_into(obligation: &[u8], proof: &[u8], buffer: &mut [u8]) {
+fn answer_into(obligation: &[u8], proof: &[u8], buffer: &mut [u8])
+    requires { ⌜ size (now buffer) ≡ bufferSize ⌝ }
+{
     let mut out = [0u8; 105];
     let outcome = put_answer(obligation, proof, buffer, &mut out);
     let length = outcome.length;
     let begin = outcome.begin;
     if outcome.refusal == 0 {
-        if !saved::save(3, &buffer[..length]) {
+        if !save_derivation(obligation, &buffer[..length]) {
             return;
         }
     }
-    lines::print(&out[begin..]);
+    write_answer(obligation, proof, length, &out[begin..]);
 }
 
 // Answers two files by a buffer that has room for the derivation of the longest proof.
@@ -49,7 +71,23 @@ fn answer_pair(obligation: &[u8], proof: &[u8]) {
     answer_into(obligation, proof, &mut buffer);
 }
 
-// One byte more is read of each file than an accepted one has.
+// Reads both files into the areas, one byte more of each than an accepted one has, and answers what stands there.
+fn answer_files(obligation: &mut [u8], proof: &mut [u8])
+    requires { ⌜ (size (now obligation) ≡ obligationRead) × (size (now proof) ≡ proofRead) ⌝ }
+{
+    let first = files::load(1, obligation);
+    if !first.fine {
+        return;
+    }
+    let second = files::load(2, proof);
+    if !second.fine {
+        return;
+    }
+    let m = first.length;
+    let n = second.length;
+    answer_pair(&obligation[..m], &proof[..n]);
+}
+
 fn main() {
     if os::arg_count() != 4 {
         io::write_all(
@@ -59,16 +97,6 @@ fn main() {
         return;
     }
     let mut obligation = [0u8; 16385];
-    let first = files::load(1, &mut obligation);
-    if !first.fine {
-        return;
-    }
     let mut proof = [0u8; 49169];
-    let second = files::load(2, &mut proof);
-    if !second.fine {
-        return;
-    }
-    let m = first.length;
-    let n = second.length;
-    answer_pair(&obligation[..m], &proof[..n]);
+    answer_files(&mut obligation, &mut proof);
 }

@@ -1,5 +1,3 @@
-pub mod Lines
-pub mod LineLaws
 pub mod Names
 pub mod NameLaws
 pub mod Enough

@@ -1,4 +1,4 @@
-// What the programs share: a file read into a lent area, the line of an answer, a file written whole or not at all.
+// What the programs share: a file read into a lent area, bytes to standard output, a file written whole or not at all.
 pub mod files;
-pub mod lines;
+pub mod output;
 pub mod saved;

@@ -20,6 +20,6 @@ main-spec = tie.close (tie.spec
     -- slice-aggregate-answer-files-2: derivation; 1 obligation; 2 if1; 3 arg-count; 4 args
     (λ c. sym (length-replicate {A = ℕ} 3200017 0))
     -- answer-files-requires: derivation; 1 obligation; 2 if1; 3 arg-count; 4 args
-    (λ c κs. search needs)
+    (λ c κs. (length-replicate {A = ℕ} 16385 0, length-replicate {A = ℕ} 3200017 0))
     -- returns-2: derivation2; 1 obligation2; 2 answer-files; 3 derivation; 4 obligation; 5 if1; 6 arg-count; 7 args
     (λ c. search needs))

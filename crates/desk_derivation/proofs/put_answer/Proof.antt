@@ -1,5 +1,5 @@
 use borrow.Author.Needs.{needs}
-use Rattle.programs.specs.LineLaws.{ends-in-equal}
+use Rattle.programs_lines.specs.LineLaws.{ends-in-equal}
 use Rattle.desk_derivation.proofs.put_answer.Statement.{statement}
 use Rattle.desk_derivation.proofs.put_answer.Tie as tie
 

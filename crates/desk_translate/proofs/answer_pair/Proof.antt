@@ -10,6 +10,6 @@ answer-pair-spec = tie.close (tie.spec
     -- slice-aggregate-answer-into: the buffer's length
     (λ c. sym (length-replicate {A = ℕ} 3146768 0))
     -- answer-into-requires
-    (λ c κs. search needs)
+    (λ c κs. length-replicate {A = ℕ} 3146768 0)
     -- returns
     (λ c. search needs))

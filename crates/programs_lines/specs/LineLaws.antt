@@ -6,12 +6,12 @@ use native.Mathlib.Nat.{pow-suc}
 use native.Mathlib.Numerals.{sub-one}
 use native.Mathlib.Omega.{arith}
 use borrow.Author.Tests.{lt-ltb, le-ltb}
-use lib.ListN.{length, drop, set, length-set}
-use lib.Seq.{drop-cons, getD-set-same, drop-set-lt, append-snoc}
+use lib.ListN.{length, take, drop, set, length-set, length-drop}
+use lib.Seq.{take-all, drop-cons, getD-set-same, drop-set-lt, append-snoc}
 use Rattle.reader.specs.Tests.{ifLt}
 use Rattle.reader.specs.DownLaws.{Local, down-zero, down-step}
 use Rattle.reader.specs.declared.Answer.{Answer}
-use Rattle.programs.specs.Lines.{digit, decimalStep, decimal, line, EndsIn, translationLine, TranslationEndsIn}
+use Rattle.programs_lines.specs.Lines.{digit, decimalStep, decimal, line, EndsIn, translationLine, TranslationEndsIn}
 
 step-local : Local decimalStep
 unfolding decimalStep
@@ -93,3 +93,14 @@ translation-line-of a n end s₁ s₂ s₃ s₄ s₅ none e₁ e₂ e₃ e₄ e�
 -- the line of an answer and a length is that of an equal answer
 pub translation-ends-in-equal : (a b : Answer) (n : ℕ) (out : List ℕ) (begin : ℕ) → a ≡ b → TranslationEndsIn a n out begin → TranslationEndsIn b n out begin
 translation-ends-in-equal a b n out begin e w = rw (← e) w
+
+-- The slice from the line's begin to the area's end is the line.
+
+slice-is : (out text : List ℕ) (begin size : ℕ) → size ≡ length out → drop begin out ≡ text → take (size - begin) (drop begin out) ≡ text
+slice-is out text begin size whole e = take-all (size - begin) (drop begin out) (omega (arith, length-drop begin out, whole)) ∙ e
+
+pub line-slice : (a : Answer) (out : List ℕ) (begin : ℕ) → EndsIn a out begin → take (84 - begin) (drop begin out) ≡ line a
+line-slice a out begin e = slice-is out (line a) begin 84 (e .whole) (e .text)
+
+pub translation-slice : (a : Answer) (n : ℕ) (out : List ℕ) (begin : ℕ) → TranslationEndsIn a n out begin → take (105 - begin) (drop begin out) ≡ translationLine a n
+translation-slice a n out begin e = slice-is out (translationLine a n) begin 105 (e .whole) (e .text)

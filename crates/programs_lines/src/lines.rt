@@ -4,7 +4,7 @@ ghost use mathlib.Core.Path.{_≡_};
 ghost use mathlib.Core.List.{_∷_, _++_};
 ghost use Prim.Native.Nat.{_+_, _≤_, _<_};
 ghost use lib.ListN.{length, drop};
-ghost use Rattle.programs.specs.Lines.{decimal, EndsIn, TranslationEndsIn};
+ghost use Rattle.programs_lines.specs.Lines.{decimal, EndsIn, TranslationEndsIn};
 
 // Writes a byte before place `end`; its place.
 fn put_byte(out: &mut [u8], end: usize, byte: u8) -> usize
@@ -58,11 +58,4 @@ pub fn put_translation(out: &mut [u8; 105], a: Answer, bytes: usize) -> usize
     let third = put_number(out, fourth, a.at, b' ');
     let second = put_number(out, third, a.file, b' ');
     put_number(out, second, a.refusal, b' ')
-}
-
-// Writes a line to standard output; a message where that fails.
-pub fn print(line: &[u8]) {
-    if !io::write_all(libc::STDOUT_FILENO, line) {
-        os::fail(b"standard output");
-    }
 }

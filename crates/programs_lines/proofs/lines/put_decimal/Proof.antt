@@ -3,9 +3,9 @@ use native.Mathlib.Omega.{arith}
 use Prim.Native.Nat.{_≤_}
 use mathlib.Core.Path.{_≡_, refl}
 use lib.ListN.{length, drop}
-use Rattle.programs.specs.LineLaws.{Writing, writing-start, writing-turn, writing-end}
-use Rattle.programs.proofs.lines.put_decimal.Statement.{statement}
-use Rattle.programs.proofs.lines.put_decimal.Tie as tie
+use Rattle.programs_lines.specs.LineLaws.{Writing, writing-start, writing-turn, writing-end}
+use Rattle.programs_lines.proofs.lines.put_decimal.Statement.{statement}
+use Rattle.programs_lines.proofs.lines.put_decimal.Tie as tie
 
 abbrev Inv-loop : tie.InvT-loop
 Inv-loop out₀ end n begin₀ rest₀ out begin rest =

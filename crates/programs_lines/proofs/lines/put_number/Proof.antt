@@ -1,7 +1,7 @@
 use borrow.Author.Needs.{needs}
 use native.Mathlib.Omega.{arith}
-use Rattle.programs.proofs.lines.put_number.Statement.{statement}
-use Rattle.programs.proofs.lines.put_number.Tie as tie
+use Rattle.programs_lines.proofs.lines.put_number.Statement.{statement}
+use Rattle.programs_lines.proofs.lines.put_number.Tie as tie
 
 pub put-number-spec : {M : Type 1} → statement M
 put-number-spec = tie.close (tie.spec

@@ -1,8 +1,8 @@
 use borrow.Author.Needs.{needs}
 use native.Mathlib.Omega.{arith}
-use Rattle.programs.specs.LineLaws.{put-before}
-use Rattle.programs.proofs.lines.put_byte.Statement.{statement}
-use Rattle.programs.proofs.lines.put_byte.Tie as tie
+use Rattle.programs_lines.specs.LineLaws.{put-before}
+use Rattle.programs_lines.proofs.lines.put_byte.Statement.{statement}
+use Rattle.programs_lines.proofs.lines.put_byte.Tie as tie
 
 pub put-byte-spec : {M : Type 1} → statement M
 put-byte-spec = tie.close (tie.spec
