@@ -1,1 +1,1 @@
-pub mod Pack
+pub mod Unpacked

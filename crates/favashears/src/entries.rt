@@ -1,32 +1,17 @@
 // The C entries: two byte areas in, the answer's four numbers in the bits of one.
 use derivation_check::check::check_derivation;
+use favashears_pack::packed::pack;
 use proof_check::check::check_proof;
-use reader::Answer;
 use reader_places::places::read_derivation;
 use reader_places::places::read_proof;
 use translation::translate::translate;
-ghost use mathlib.Core.Path.{_≡_};
 ghost use Rattle.reader.specs.Places.{reading};
 ghost use Rattle.proof_rules.specs.Check.{proofAnswer};
 ghost use Rattle.derivation_rules.specs.Check.{derivationAnswer};
 ghost use lib.ListN.{length as size};
 ghost use Rattle.translation_rules.specs.Check.{translationAnswer};
 ghost use Rattle.translation_meaning.specs.Translates.{Translates};
-ghost use Rattle.favashears.specs.Pack.{pack, Unpacks};
-
-// The answer in one number.
-fn pack(a: Answer) -> u64
-    ensures { λ r. ⌜ r ≡ pack a ⌝ }
-{
-    let refusal = a.refusal;
-    let file = a.file;
-    let at = a.at;
-    let nodes = a.nodes;
-    ((refusal % 256) as u64) * 72057594037927936
-        + ((file % 256) as u64) * 281474976710656
-        + ((at % 16777216) as u64) * 16777216
-        + ((nodes % 16777216) as u64)
-}
+ghost use Rattle.favashears_pack.specs.Pack.{Unpacks};
 
 // The answer to an obligation and a proof.
 #[no_mangle]

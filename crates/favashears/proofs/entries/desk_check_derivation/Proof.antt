@@ -1,5 +1,5 @@
 use borrow.Author.Needs.{needs}
-use Rattle.favashears.specs.Pack.{derivation-unpacks}
+use Rattle.favashears.specs.Unpacked.{derivation-unpacks}
 use native.Mathlib.Omega.{arith}
 use Rattle.favashears.proofs.entries.desk_check_derivation.Statement.{statement}
 use Rattle.favashears.proofs.entries.desk_check_derivation.Tie as tie

@@ -1,5 +1,5 @@
 use borrow.Author.Needs.{needs}
-use Rattle.favashears.specs.Pack.{proof-unpacks}
+use Rattle.favashears.specs.Unpacked.{proof-unpacks}
 use Rattle.favashears.proofs.entries.desk_check_proof.Statement.{statement}
 use Rattle.favashears.proofs.entries.desk_check_proof.Tie as tie
 

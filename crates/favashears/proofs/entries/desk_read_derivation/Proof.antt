@@ -1,5 +1,5 @@
 use borrow.Author.Needs.{needs}
-use Rattle.favashears.specs.Pack.{reading-derivation-unpacks}
+use Rattle.favashears.specs.Unpacked.{reading-derivation-unpacks}
 use Rattle.favashears.proofs.entries.desk_read_derivation.Statement.{statement}
 use Rattle.favashears.proofs.entries.desk_read_derivation.Tie as tie
 

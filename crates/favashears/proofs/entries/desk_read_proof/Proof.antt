@@ -1,5 +1,5 @@
 use borrow.Author.Needs.{needs}
-use Rattle.favashears.specs.Pack.{reading-proof-unpacks}
+use Rattle.favashears.specs.Unpacked.{reading-proof-unpacks}
 use Rattle.favashears.proofs.entries.desk_read_proof.Statement.{statement}
 use Rattle.favashears.proofs.entries.desk_read_proof.Tie as tie
 

@@ -1,5 +1,5 @@
 use borrow.Author.Needs.{needs}
-use Rattle.favashears.specs.Pack.{translation-unpacks}
+use Rattle.favashears.specs.Unpacked.{translation-unpacks}
 use Rattle.favashears.proofs.entries.desk_translate.Statement.{statement}
 use Rattle.favashears.proofs.entries.desk_translate.Tie as tie
 

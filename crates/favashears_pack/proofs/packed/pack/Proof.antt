@@ -1,8 +1,8 @@
 use borrow.Author.Needs.{needs}
 use mathlib.Core.Path.{refl}
-use Rattle.favashears.specs.Pack.{pack}
-use Rattle.favashears.proofs.entries.pack.Statement.{statement}
-use Rattle.favashears.proofs.entries.pack.Tie as tie
+use Rattle.favashears_pack.specs.Pack.{pack}
+use Rattle.favashears_pack.proofs.packed.pack.Statement.{statement}
+use Rattle.favashears_pack.proofs.packed.pack.Tie as tie
 
 pub pack-spec : {M : Type 1} → statement M
 unfolding pack

@@ -1,0 +1,2 @@
+// The four numbers of an answer in the bits of one.
+pub mod packed;
