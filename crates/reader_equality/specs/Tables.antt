@@ -1,11 +1,11 @@
 -- Tables of numbers that code lends out: entries, zeros, and stores past the end, which do nothing.
-use Prim.Native.Nat.{ℕ, _+_, _<_, _≤_}
+use Prim.Native.Nat.{ℕ, zero, suc, _+_, _<_, _≤_}
 use mathlib.Core.Path.{_≡_, refl, sym, _∙_}
-use mathlib.Core.List.{List}
+use mathlib.Core.List.{List, [], _∷_, _++_}
 use mathlib.Core.Bool.{Bool, true, false}
 use lib.Dec.{eqb, ltb}
-use lib.ListN.{length, getD, set, List·getD-eq-default}
-use lib.Seq.{getD-set-same, getD-set-other, set-out}
+use lib.ListN.{length, getD, set, take, drop, replicate, length-take, List·getD-eq-default}
+use lib.Seq.{getD-set-same, getD-set-other, set-out, getD-take, getD-drop}
 use native.Mathlib.Omega.{arith}
 use borrow.Author.Tests.{eqb-true, eqb-false, ltb-true, ltb-false}
 
@@ -33,6 +33,33 @@ zeros-all table k h f = record { zeros = λ q. go q (ltb q k) refl }
     go : (q : ℕ) → (b : Bool) → ltb q k ≡ b → getD table q 0 ≡ 0
     go q true t = f .zeros q (ltb-true q k t)
     go q false t = List·getD-eq-default table 0 (omega (arith, ltb-false q k t))
+
+-- a table made of zeros, and parts of such tables
+pub zeros-made : (n : ℕ) → Zeros (replicate n 0)
+zeros-made n = record { zeros = go n }
+  where
+    go : (n k : ℕ) → _≡_ {A = ℕ} (getD (replicate n 0) k 0) 0
+    go zero k = refl
+    go (suc n) zero = refl
+    go (suc n) (suc k) = go n k
+
+pub zeros-take : (n : ℕ) (table : List ℕ) → Zeros table → Zeros (take n table)
+zeros-take n table z = record { zeros = λ k. go k (ltb k n) refl }
+  where
+    go : (k : ℕ) (b : Bool) → ltb k n ≡ b → getD (take n table) k 0 ≡ 0
+    go k true t = getD-take n table k 0 (ltb-true k n t) ∙ z .zeros k
+    go k false t = List·getD-eq-default (take n table) 0 (omega (arith, length-take n table, ltb-false k n t))
+
+pub zeros-drop : (n : ℕ) (table : List ℕ) → Zeros table → Zeros (drop n table)
+zeros-drop n table z = record { zeros = λ k. getD-drop n table k 0 ∙ z .zeros (n + k) }
+
+pub zeros-join : (first second : List ℕ) → Zeros first → Zeros second → Zeros (first ++ second)
+zeros-join first second z y = record { zeros = go first (z .zeros) }
+  where
+    go : (l : List ℕ) → ((k : ℕ) → getD l k 0 ≡ 0) → (k : ℕ) → getD (l ++ second) k 0 ≡ 0
+    go [] f k = y .zeros k
+    go (x ∷ xs) f zero = f zero
+    go (x ∷ xs) f (suc k) = go xs (λ q. f (suc q)) k
 
 -- The ways out of `entry_at` and `store`.
 pub entry-past : (table : List ℕ) (k : ℕ) → length table ≤ k → 0 ≡ getD table k 0

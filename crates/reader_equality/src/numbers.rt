@@ -8,6 +8,7 @@ ghost use lib.ListN.{length};
 ghost use Rattle.reader.specs.Words.{word};
 ghost use Rattle.reader.specs.Trees.{tree, same};
 ghost use Rattle.reader_equality.specs.Least.{least, Numbered};
+ghost use Rattle.reader_equality.specs.Tables.{Zeros};
 
 // The number of record i.
 pub fn number_of(obligation: &[u8], second: &[u8], m: usize, table: &[usize], i: usize) -> usize
@@ -53,7 +54,8 @@ pub fn same_at(
     same_number(obligation, second, m, table, i, j)
 }
 
-// Fills the table with the numbers of all its records; past the end of the files a record reads as zeros. The slots are scratch.
+// Fills the table with the numbers of all its records; past the end of the files a record reads as zeros. The slots are scratch: zeros before, and
+// zeros again.
 pub fn number_all(
     obligation: &[u8],
     second: &[u8],
@@ -61,10 +63,9 @@ pub fn number_all(
     table: &mut [usize],
     slots: &mut [u32],
 )
-    requires { ⌜ (length (now table) ≤ 4294967296) × (4096 + 2 * length (now table) ≤ length (now slots)) ⌝ }
-    ensures { λ _. ⌜ Numbered (word (now (obligation .entry)) (now (second .entry)) m) (now (table .exit)) (length (now (table .exit))) ⌝ }
+    requires { ⌜ (length (now table) ≤ 4294967296) × (4096 + 2 * length (now table) ≤ length (now slots)) × Zeros (now slots) ⌝ }
+    ensures { λ _. ⌜ Numbered (word (now (obligation .entry)) (now (second .entry)) m) (now (table .exit)) (length (now (table .exit))) × Zeros (now (slots .exit)) ⌝ }
 {
-    slots::clear(slots);
     if table.len() == 0 {
         return;
     }
@@ -74,4 +75,5 @@ pub fn number_all(
         table[i] = slots::place(obligation, second, m, true, table, slots, i);
         i += 1;
     }
+    slots::clear(slots);
 }

@@ -12,6 +12,7 @@ ghost use Rattle.reader.specs.Trees.{tree, same};
 ghost use Rattle.reader.specs.Chains.{itemTrees};
 ghost use Rattle.reader.specs.Variables.{instance};
 ghost use Rattle.reader_equality.specs.Least.{Numbered};
+ghost use Rattle.reader_equality.specs.Tables.{Zeros};
 ghost use Rattle.reader_instances.specs.Instances.{fits, fitsVariable, fitsChild, fitsParts, Remembered};
 
 // Is record i what the type variable j stands for, an item of chain c, or j itself past its end?
@@ -116,7 +117,8 @@ pub fn fits_at(
     true
 }
 
-// The same with the items of chain c after its first: an application's own type stands before its type arguments. The table is scratch.
+// The same with the items of chain c after its first: an application's own type stands before its type arguments. The table is scratch:
+// zeros before, and zeros again.
 pub fn same_instance(
     obligation: &[u8],
     second: &[u8],
@@ -127,10 +129,11 @@ pub fn same_instance(
     j: usize,
     c: usize,
 ) -> bool
-    requires { ⌜ Numbered (word (now obligation) (now second) m) (now numbers) (length (now numbers)) ⌝ }
-    ensures { λ r. ⌜ r ≡ same (tree (word (now (obligation .entry)) (now (second .entry)) m) i) (instance (drop 1 (itemTrees (word (now (obligation .entry)) (now (second .entry)) m) c)) (tree (word (now (obligation .entry)) (now (second .entry)) m) j)) ⌝ }
+    requires { ⌜ Numbered (word (now obligation) (now second) m) (now numbers) (length (now numbers)) × Zeros (now seen) ⌝ }
+    ensures { λ r. ⌜ (r ≡ same (tree (word (now (obligation .entry)) (now (second .entry)) m) i) (instance (drop 1 (itemTrees (word (now (obligation .entry)) (now (second .entry)) m) c)) (tree (word (now (obligation .entry)) (now (second .entry)) m) j))) × Zeros (now (seen .exit)) ⌝ }
 {
-    tables::clear(seen);
     let types = trees::lower_at(obligation, second, m, c, 3);
-    fits_at(obligation, second, m, numbers, seen, i, j, types)
+    let r = fits_at(obligation, second, m, numbers, seen, i, j, types);
+    tables::clear(seen);
+    r
 }

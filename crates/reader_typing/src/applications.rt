@@ -15,6 +15,7 @@ ghost use Rattle.reader.specs.Chains.{itemTrees};
 ghost use Rattle.reader.specs.Variables.{typesBelow};
 ghost use Rattle.reader.specs.Typing.{functionTyped, applicationTyped};
 ghost use Rattle.reader_equality.specs.Least.{Numbered};
+ghost use Rattle.reader_equality.specs.Tables.{Zeros};
 ghost use Rattle.reader_instances.specs.Instances.{Remembered};
 ghost use Rattle.reader_instances.specs.Signatures.{Known};
 ghost use Rattle.reader_typing.specs.Applications.{argumentsFit, signatureFits};
@@ -49,7 +50,7 @@ fn items_below(
     items_below(obligation, second, m, seen, rest, p)
 }
 
-// The same; the table is scratch.
+// The same; the table is scratch, zeros before and zeros again.
 fn signature_below(
     obligation: &[u8],
     second: &[u8],
@@ -58,13 +59,15 @@ fn signature_below(
     c: usize,
     p: usize,
 ) -> bool
-    ensures { λ r. ⌜ r ≡ every (typesBelow p) (itemTrees (word (now (obligation .entry)) (now (second .entry)) m) c) ⌝ }
+    requires { ⌜ Zeros (now seen) ⌝ }
+    ensures { λ r. ⌜ (r ≡ every (typesBelow p) (itemTrees (word (now (obligation .entry)) (now (second .entry)) m) c)) × Zeros (now (seen .exit)) ⌝ }
 {
+    let r = items_below(obligation, second, m, seen, c, p);
     tables::clear(seen);
-    items_below(obligation, second, m, seen, c, p)
+    r
 }
 
-// "Signatures use only variables below their parameter count." The table is scratch.
+// "Signatures use only variables below their parameter count." The table is scratch, zeros before and zeros again.
 pub fn function_typed(
     obligation: &[u8],
     second: &[u8],
@@ -72,7 +75,8 @@ pub fn function_typed(
     seen: &mut [usize],
     f: usize,
 ) -> bool
-    ensures { λ r. ⌜ r ≡ functionTyped (word (now (obligation .entry)) (now (second .entry)) m) f ⌝ }
+    requires { ⌜ Zeros (now seen) ⌝ }
+    ensures { λ r. ⌜ (r ≡ functionTyped (word (now (obligation .entry)) (now (second .entry)) m) f) × Zeros (now (seen .exit)) ⌝ }
 {
     let p = words::word_at(obligation, second, m, f, 2);
     let types = trees::lower_at(obligation, second, m, f, 1);
@@ -111,7 +115,7 @@ fn arguments_fit(
     arguments_fit(obligation, second, m, numbers, seen, rest, others, c)
 }
 
-// The same with type t before the arguments' types. The table is scratch.
+// The same with type t before the arguments' types. The table has zeros before.
 fn signature_fits(
     obligation: &[u8],
     second: &[u8],
@@ -123,13 +127,12 @@ fn signature_fits(
     s: usize,
     c: usize,
 ) -> bool
-    requires { ⌜ Numbered (word (now obligation) (now second) m) (now numbers) (length (now numbers)) ⌝ }
+    requires { ⌜ Numbered (word (now obligation) (now second) m) (now numbers) (length (now numbers)) × Zeros (now seen) ⌝ }
     ensures { λ r. ⌜ r ≡ signatureFits (word (now (obligation .entry)) (now (second .entry)) m) t a s c ⌝ }
 {
     if s == 0 {
         return false;
     }
-    tables::clear(seen);
     let j = trees::lower_at(obligation, second, m, s, 1);
     if !instances::fits_at(obligation, second, m, numbers, seen, t, j, c) {
         return false;
@@ -138,7 +141,27 @@ fn signature_fits(
     arguments_fit(obligation, second, m, numbers, seen, a, others, c)
 }
 
-// "an application fits its signature with the type arguments put in". The table is scratch.
+// The same; the table is scratch, zeros before and zeros again.
+fn signature_holds(
+    obligation: &[u8],
+    second: &[u8],
+    m: usize,
+    numbers: &[usize],
+    seen: &mut [usize],
+    t: usize,
+    a: usize,
+    s: usize,
+    c: usize,
+) -> bool
+    requires { ⌜ Numbered (word (now obligation) (now second) m) (now numbers) (length (now numbers)) × Zeros (now seen) ⌝ }
+    ensures { λ r. ⌜ (r ≡ signatureFits (word (now (obligation .entry)) (now (second .entry)) m) t a s c) × Zeros (now (seen .exit)) ⌝ }
+{
+    let r = signature_fits(obligation, second, m, numbers, seen, t, a, s, c);
+    tables::clear(seen);
+    r
+}
+
+// "an application fits its signature with the type arguments put in". The table is scratch, zeros before and zeros again.
 pub fn application_typed(
     obligation: &[u8],
     second: &[u8],
@@ -147,8 +170,8 @@ pub fn application_typed(
     seen: &mut [usize],
     i: usize,
 ) -> bool
-    requires { ⌜ Numbered (word (now obligation) (now second) m) (now numbers) (length (now numbers)) ⌝ }
-    ensures { λ r. ⌜ r ≡ applicationTyped (word (now (obligation .entry)) (now (second .entry)) m) i ⌝ }
+    requires { ⌜ Numbered (word (now obligation) (now second) m) (now numbers) (length (now numbers)) × Zeros (now seen) ⌝ }
+    ensures { λ r. ⌜ (r ≡ applicationTyped (word (now (obligation .entry)) (now (second .entry)) m) i) × Zeros (now (seen .exit)) ⌝ }
 {
     let f = trees::lower_at(obligation, second, m, i, 1);
     let c = trees::lower_at(obligation, second, m, i, 2);
@@ -161,7 +184,7 @@ pub fn application_typed(
     let s = trees::lower_at(obligation, second, m, f, 1);
     let type_arguments = trees::lower_at(obligation, second, m, c, 3);
     let room = within(f, seen.len());
-    signature_fits(
+    signature_holds(
         obligation,
         second,
         m,

@@ -1,3 +1,3 @@
 // Typing of functions, of applications and of any record: refusal 10.
-pub mod applications;
+mod applications;
 pub mod records;

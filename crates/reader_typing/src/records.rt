@@ -6,9 +6,10 @@ ghost use mathlib.Core.Path.{_≡_};
 ghost use lib.ListN.{length};
 ghost use Rattle.reader.specs.Words.{word};
 ghost use Rattle.reader_equality.specs.Least.{Numbered};
+ghost use Rattle.reader_equality.specs.Tables.{Zeros};
 ghost use Rattle.reader.specs.Typing.{isTyped};
 
-// Is record i typed as its kind asks? Refusal 10 where it is not. The table `seen` is scratch.
+// Is record i typed as its kind asks? Refusal 10 where it is not. The table `seen` is scratch, zeros before and zeros again.
 pub fn is_typed(
     obligation: &[u8],
     second: &[u8],
@@ -17,8 +18,8 @@ pub fn is_typed(
     seen: &mut [usize],
     i: usize,
 ) -> bool
-    requires { ⌜ Numbered (word (now obligation) (now second) m) (now numbers) (length (now numbers)) ⌝ }
-    ensures { λ r. ⌜ r ≡ isTyped (word (now (obligation .entry)) (now (second .entry)) m) i ⌝ }
+    requires { ⌜ Numbered (word (now obligation) (now second) m) (now numbers) (length (now numbers)) × Zeros (now seen) ⌝ }
+    ensures { λ r. ⌜ (r ≡ isTyped (word (now (obligation .entry)) (now (second .entry)) m) i) × Zeros (now (seen .exit)) ⌝ }
 {
     let k = words::word_at(obligation, second, m, i, 0);
     if k == 7 {

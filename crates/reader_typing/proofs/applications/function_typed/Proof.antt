@@ -1,4 +1,6 @@
 use borrow.Author.Needs.{needs}
+use Prim.Native.Nat.{_-_}
+use Rattle.reader_equality.specs.Tables.{zeros-take, zeros-drop, zeros-join}
 use Rattle.reader_typing.specs.Applications.{function-is}
 use Rattle.reader_typing.proofs.applications.function_typed.Statement.{statement}
 use Rattle.reader_typing.proofs.applications.function_typed.Tie as tie
@@ -18,8 +20,8 @@ function-typed-spec = tie.close (tie.spec
     -- part-signature-below-end: within; 1 lower-at; 2 word-at; 6 args
     (λ c. search needs)
     -- signature-below-requires: signature-below-arg; 1 within; 2 lower-at; 3 word-at; 7 args
-    (λ c κs. search needs)
+    (λ c κs. zeros-take (c .before .within .result - 0) (c .before .before .before .before .before .before .before .args .seen .now) (c .before .before .before .before .before .before .before .pre))
     -- same-length: 1 seen; 2 signature-below; 3 signature-below-arg; 4 within; 5 lower-at; 6 word-at; 10 args
     (λ c. search needs)
     -- returns: 1 seen; 2 signature-below; 3 signature-below-arg; 4 within; 5 lower-at; 6 word-at; 10 args
-    (λ c. search function-is))
+    (λ c. (search function-is, zeros-join _ _ (c .before .before .signature-below .ensures .1) (zeros-drop (c .before .before .before .before .within .result - 0) (c .before .before .before .before .before .before .before .before .before .before .args .seen .now) (c .before .before .before .before .before .before .before .before .before .before .pre)))))
