@@ -9,11 +9,12 @@ ghost use Prim.Native.Nat.{_+_, _-_, _<_, _≤_};
 ghost use lib.ListN.{length};
 ghost use Rattle.reader.specs.Answers.{firstFault};
 ghost use Rattle.reader.specs.Records.{recordFault};
-ghost use Rattle.reader_names.specs.Taken.{Room};
+ghost use Rattle.reader_names.specs.Taken.{Room, Names};
 ghost use Rattle.reader.specs.Places.{countOf, rootOf};
 ghost use Rattle.reader_equality.specs.Least.{Numbered};
 ghost use Rattle.reader_equality.specs.Tables.{Zeros};
 ghost use Rattle.reader_weights.specs.Weights.{fileOf};
+ghost use Rattle.reader_records.specs.Tables.{endOf, namesTo, Weighed};
 ghost use Rattle.reader_naming.specs.Totals.{Cleared};
 ghost use Rattle.reader_bodies.specs.Places.{recordsAndRoots, rootAndNaming, secondBody, Blank};
 ghost use Rattle.reader.specs.Words.{word};
@@ -42,7 +43,8 @@ pub fn refused(refusal: usize, file: usize) -> Answer
     }
 }
 
-// The records and the roots of an obligation; `none` is the empty second file.
+// The records and the roots of an obligation; `none` is the empty second file. The slots have then the names of the records that were read, the table their
+// weights; `seen` is scratch, zeros before and zeros again.
 pub fn obligation_body(
     obligation: &[u8],
     none: &[u8],
@@ -52,8 +54,8 @@ pub fn obligation_body(
     slots: &mut [u32],
     table: &mut [u16],
 ) -> Answer
-    requires { ⌜ (m < length (now table)) × Room (now slots) m × Blank (now table) × Zeros (now slots) × Numbered (word (now obligation) (now none) m) (now numbers) (length (now numbers)) ⌝ }
-    ensures { λ r. ⌜ r ≡ recordsAndRoots (word (now (obligation .entry)) (now (none .entry)) m) m ⌝ }
+    requires { ⌜ (m < length (now table)) × Room (now slots) m × Blank (now table) × Zeros (now slots) × Numbered (word (now obligation) (now none) m) (now numbers) (length (now numbers)) × Zeros (now seen) ⌝ }
+    ensures { λ r. ⌜ (r ≡ recordsAndRoots (word (now (obligation .entry)) (now (none .entry)) m) m) × Zeros (now (seen .exit)) × Names (word (now (obligation .entry)) (now (none .entry)) m) (now (slots .exit)) (namesTo r 1 m) × Weighed (word (now (obligation .entry)) (now (none .entry)) m) (now (table .entry)) (now (table .exit)) (endOf r 1 m) ⌝ }
 {
     let r = faults::first_fault(obligation, none, m, 0, numbers, seen, slots, table, 1, m);
     if r.refusal != 0 {
@@ -65,8 +67,8 @@ pub fn obligation_body(
     passed()
 }
 
-// The root of a second file, and the naming of its rule nodes.
-pub fn root_and_naming(
+// The root of a second file, and the naming of its rule nodes. The tables are scratch: zeros before, and zeros again.
+fn root_and_naming(
     obligation: &[u8],
     second: &[u8],
     m: usize,
@@ -76,17 +78,27 @@ pub fn root_and_naming(
     last: usize,
 ) -> Answer
     requires { ⌜ (m ≤ last) × (last < length (now named)) × (last < length (now passed)) × Cleared (now named) × Cleared (now passed) ⌝ }
-    ensures { λ r. ⌜ r ≡ rootAndNaming mode (word (now (obligation .entry)) (now (second .entry)) m) (rootOf (now (second .entry))) m last ⌝ }
+    ensures { λ r. ⌜ (r ≡ rootAndNaming mode (word (now (obligation .entry)) (now (second .entry)) m) (rootOf (now (second .entry))) m last) × Cleared (now (named .exit)) × Cleared (now (passed .exit)) ⌝ }
 {
     let root = words::word_of(second, 0, 2);
     if !kinds::is_rule(mode, words::word_at(obligation, second, m, root, 0)) {
         return refused(11, 2);
     }
-    reader_naming::first_unnamed(obligation, second, m, mode, named, passed, last)
+    let size = last + 1;
+    reader_naming::first_unnamed(
+        obligation,
+        second,
+        m,
+        mode,
+        &mut named[0..size],
+        &mut passed[0..size],
+        last,
+    )
 }
 
-// The first refusal of the records of a second file of kind `mode`, up to `last`. The tables are scratch.
-pub fn second_records(
+// The first refusal of the records of a second file of kind `mode`, up to `last`. The slots have then the names of the records that were read, the table their
+// weights; `seen` is scratch, zeros before and zeros again.
+fn second_records(
     obligation: &[u8],
     second: &[u8],
     m: usize,
@@ -97,8 +109,8 @@ pub fn second_records(
     table: &mut [u16],
     last: usize,
 ) -> Answer
-    requires { ⌜ (m ≤ last) × (last < length (now table)) × Room (now slots) last × Zeros (now slots) × Blank (now table) × Numbered (word (now obligation) (now second) m) (now numbers) (length (now numbers)) ⌝ }
-    ensures { λ r. ⌜ r ≡ firstFault (recordFault mode (word (now (obligation .entry)) (now (second .entry)) m)) (fileOf mode) (last + 1 - (m + 1)) (m + 1) ⌝ }
+    requires { ⌜ (m ≤ last) × (last < length (now table)) × Room (now slots) last × Zeros (now slots) × Blank (now table) × Numbered (word (now obligation) (now second) m) (now numbers) (length (now numbers)) × Zeros (now seen) ⌝ }
+    ensures { λ r. ⌜ (r ≡ firstFault (recordFault mode (word (now (obligation .entry)) (now (second .entry)) m)) (fileOf mode) (last + 1 - (m + 1)) (m + 1)) × Zeros (now (seen .exit)) × Names (word (now (obligation .entry)) (now (second .entry)) m) (now (slots .exit)) (namesTo r (m + 1) last) × Weighed (word (now (obligation .entry)) (now (second .entry)) m) (now (table .entry)) (now (table .exit)) (endOf r (m + 1) last) ⌝ }
 {
     reader_names::slots::enter_all(obligation, second, m, slots, m);
     faults::weigh_all(obligation, second, m, table, m);
@@ -116,7 +128,8 @@ pub fn second_records(
     )
 }
 
-// The records of a second file of kind `mode`, its root and its naming. The tables are scratch.
+// The records of a second file of kind `mode`, its root and its naming. The slots have then the names of the records that were read, the table their
+// weights; the other tables are scratch, zeros before and zeros again.
 pub fn second_body(
     obligation: &[u8],
     second: &[u8],
@@ -129,8 +142,8 @@ pub fn second_body(
     named: &mut [u8],
     passed: &mut [u8],
 ) -> Answer
-    requires { ⌜ (0 < mode) × Room (now slots) (m + countOf (now second)) × (m + countOf (now second) < length (now table)) × (m + countOf (now second) < length (now named)) × (m + countOf (now second) < length (now passed)) × Zeros (now slots) × Blank (now table) × Cleared (now named) × Cleared (now passed) × Numbered (word (now obligation) (now second) m) (now numbers) (length (now numbers)) ⌝ }
-    ensures { λ r. ⌜ r ≡ secondBody mode (word (now (obligation .entry)) (now (second .entry)) m) m (countOf (now (second .entry))) (rootOf (now (second .entry))) ⌝ }
+    requires { ⌜ (0 < mode) × Room (now slots) (m + countOf (now second)) × (m + countOf (now second) < length (now table)) × (m + countOf (now second) < length (now named)) × (m + countOf (now second) < length (now passed)) × Zeros (now slots) × Blank (now table) × Cleared (now named) × Cleared (now passed) × Numbered (word (now obligation) (now second) m) (now numbers) (length (now numbers)) × Zeros (now seen) ⌝ }
+    ensures { λ r. ⌜ (r ≡ secondBody mode (word (now (obligation .entry)) (now (second .entry)) m) m (countOf (now (second .entry))) (rootOf (now (second .entry)))) × Zeros (now (seen .exit)) × Names (word (now (obligation .entry)) (now (second .entry)) m) (now (slots .exit)) (namesTo r (m + 1) (m + countOf (now (second .entry)))) × Weighed (word (now (obligation .entry)) (now (second .entry)) m) (now (table .entry)) (now (table .exit)) (endOf r (m + 1) (m + countOf (now (second .entry)))) × Cleared (now (named .exit)) × Cleared (now (passed .exit)) ⌝ }
 {
     let last = m + words::word_of(second, 0, 1);
     let r = second_records(

@@ -17,6 +17,7 @@ use Rattle.reader.specs.Chains.{premises}
 use Rattle.reader.specs.Answers.{firstFault}
 use Rattle.reader.specs.AnswerLaws.{scan-same}
 use Rattle.reader.specs.Places.{timesIn, namings, namingFault}
+use Rattle.reader_equality.specs.Tables.{ZerosBelow, zeros-all}
 use Rattle.reader_naming.specs.Counts.{times, bumped, bumped-same, bumped-other, Settled, Added}
 
 -- how often record j's premise chain names r, where j is a rule node
@@ -90,6 +91,10 @@ pick n e h = go (eqb n 1) refl
 -- a table of zeros
 pub record Cleared (table : List ℕ) : Type 0 where
   pub zeros : (r : ℕ) → getD table r 0 ≡ 0
+
+-- the end of `clear`
+pub cleared-all : (table : List ℕ) (k : ℕ) → length table ≤ k → ZerosBelow table k → Cleared table
+cleared-all table k h z = record { zeros = zeros-all table k h z .zeros }
 
 -- only the root is counted, once
 pub record Rooted (root : ℕ) (table : List ℕ) : Type 0 where

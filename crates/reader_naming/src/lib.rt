@@ -182,8 +182,19 @@ fn count_root(named: &mut [u8], root: usize)
     }
 }
 
-// The first rule node of the second file, of kind `mode`, that is not named exactly once. The tables are scratch: zeros for each record up to `last`.
-pub fn first_unnamed(
+// Makes every entry 0.
+fn clear(table: &mut [u8])
+    ensures { λ _. ⌜ Cleared (now (table .exit)) ⌝ }
+{
+    let mut k: usize = 0;
+    while k < table.len() {
+        table[k] = 0;
+        k += 1;
+    }
+}
+
+// The first rule node of the second file, of kind `mode`, that is not named exactly once. The tables are zeros before.
+fn first_by_counts(
     obligation: &[u8],
     second: &[u8],
     m: usize,
@@ -198,4 +209,23 @@ pub fn first_unnamed(
     count_root(named, words::word_of(second, 0, 2));
     count_nodes(obligation, second, m, mode, named, passed, last);
     first_miscounted(obligation, second, m, mode, named, m + 1, last)
+}
+
+// The same. The tables are scratch: zeros before, and zeros again.
+pub fn first_unnamed(
+    obligation: &[u8],
+    second: &[u8],
+    m: usize,
+    mode: u8,
+    named: &mut [u8],
+    passed: &mut [u8],
+    last: usize,
+) -> Answer
+    requires { ⌜ (m ≤ last) × (last < length (now named)) × (last < length (now passed)) × Cleared (now named) × Cleared (now passed) ⌝ }
+    ensures { λ r. ⌜ (r ≡ firstFault (namingFault mode (word (now (obligation .entry)) (now (second .entry)) m) (rootOf (now (second .entry))) last) 2 (last - m) (m + 1)) × Cleared (now (named .exit)) × Cleared (now (passed .exit)) ⌝ }
+{
+    let r = first_by_counts(obligation, second, m, mode, named, passed, last);
+    clear(named);
+    clear(passed);
+    r
 }

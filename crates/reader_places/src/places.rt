@@ -55,7 +55,7 @@ fn second_reading(
     named: &mut [u8],
     passed: &mut [u8],
 ) -> Answer
-    requires { ⌜ (0 < mode) × (m ≡ countOf (now obligation)) × (m < 1024) × Roomy mode (now slots) (now table) (now named) (now passed) × Zeros (now slots) × Blank (now table) × Cleared (now named) × Cleared (now passed) × Numbered (word (now obligation) (now second) m) (now numbers) (length (now numbers)) ⌝ }
+    requires { ⌜ (0 < mode) × (m ≡ countOf (now obligation)) × (m < 1024) × Roomy mode (now slots) (now table) (now named) (now passed) × Zeros (now slots) × Blank (now table) × Cleared (now named) × Cleared (now passed) × Numbered (word (now obligation) (now second) m) (now numbers) (length (now numbers)) × Zeros (now seen) ⌝ }
     ensures { λ r. ⌜ r ≡ secondReading mode (now (obligation .entry)) (now (second .entry)) ⌝ }
 {
     if !headers::length_fits(mode, second) {

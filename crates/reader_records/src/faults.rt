@@ -14,7 +14,9 @@ ghost use Rattle.reader_equality.specs.Least.{Numbered};
 ghost use Rattle.reader.specs.Answers.{firstFault};
 ghost use Rattle.reader.specs.Records.{nameLengthFits, chainsFit, typingFits, wordsFault, contentFault, recordFault};
 ghost use Rattle.reader_names.specs.Taken.{Room, Names};
+ghost use Rattle.reader_equality.specs.Tables.{Zeros};
 ghost use Rattle.reader_weights.specs.Weights.{capped, Filled, fileOf};
+ghost use Rattle.reader_records.specs.Tables.{endOf, namesTo, lookedUp, Weighed};
 
 // Have the chains of record i their lengths?
 fn chains_fit(obligation: &[u8], second: &[u8], m: usize, i: usize) -> bool
@@ -26,7 +28,7 @@ fn chains_fit(obligation: &[u8], second: &[u8], m: usize, i: usize) -> bool
     references::item_chains_fit(obligation, second, m, i)
 }
 
-// Is record i typed as its kind asks, where the file of kind `mode` is typed?
+// Is record i typed as its kind asks, where the file of kind `mode` is typed? The table is scratch, zeros before and zeros again.
 fn typing_fits(
     obligation: &[u8],
     second: &[u8],
@@ -36,8 +38,8 @@ fn typing_fits(
     seen: &mut [usize],
     i: usize,
 ) -> bool
-    requires { ⌜ Numbered (word (now obligation) (now second) m) (now numbers) (length (now numbers)) ⌝ }
-    ensures { λ r. ⌜ r ≡ typingFits mode (word (now (obligation .entry)) (now (second .entry)) m) i ⌝ }
+    requires { ⌜ Numbered (word (now obligation) (now second) m) (now numbers) (length (now numbers)) × Zeros (now seen) ⌝ }
+    ensures { λ r. ⌜ (r ≡ typingFits mode (word (now (obligation .entry)) (now (second .entry)) m) i) × Zeros (now (seen .exit)) ⌝ }
 {
     if mode == 2 {
         return true;
@@ -64,7 +66,8 @@ fn words_fault(obligation: &[u8], second: &[u8], m: usize, mode: u8, i: usize) -
     0
 }
 
-// Refusals 7 to 10 of record i, whose weight is w, 0 for none. The slots have the names below i, and where none is refused, then that of i.
+// Refusals 7 to 10 of record i, whose weight is w, 0 for none. The slots have the names below i, and then that of i where it was
+// looked up; `seen` is scratch, zeros before and zeros again.
 fn content_fault(
     obligation: &[u8],
     second: &[u8],
@@ -76,8 +79,8 @@ fn content_fault(
     i: usize,
     w: usize,
 ) -> usize
-    requires { ⌜ (w ≡ capped (weight (tree (word (now obligation) (now second) m) i))) × Numbered (word (now obligation) (now second) m) (now numbers) (length (now numbers)) × (0 < i) × Room (now slots) i × Names (word (now obligation) (now second) m) (now slots) i × (nameLengthFits (word (now obligation) (now second) m) i ≡ true) ⌝ }
-    ensures { λ r. ⌜ (r ≡ contentFault mode (word (now (obligation .entry)) (now (second .entry)) m) i) × (r ≡ 0 → Names (word (now (obligation .entry)) (now (second .entry)) m) (now (slots .exit)) (i + 1)) ⌝ }
+    requires { ⌜ (w ≡ capped (weight (tree (word (now obligation) (now second) m) i))) × Numbered (word (now obligation) (now second) m) (now numbers) (length (now numbers)) × (0 < i) × Room (now slots) i × Names (word (now obligation) (now second) m) (now slots) i × (nameLengthFits (word (now obligation) (now second) m) i ≡ true) × Zeros (now seen) ⌝ }
+    ensures { λ r. ⌜ (r ≡ contentFault mode (word (now (obligation .entry)) (now (second .entry)) m) i) × Zeros (now (seen .exit)) × Names (word (now (obligation .entry)) (now (second .entry)) m) (now (slots .exit)) (lookedUp r i) ⌝ }
 {
     if !weights::weight_fits(obligation, second, m, mode, i, w) {
         return 7;
@@ -94,7 +97,7 @@ fn content_fault(
     0
 }
 
-// The refusal of record i of a file of kind `mode`, 0 for none; the slots as in `content_fault`.
+// The refusal of record i of a file of kind `mode`, 0 for none; the slots and `seen` as in `content_fault`.
 fn record_fault(
     obligation: &[u8],
     second: &[u8],
@@ -106,8 +109,8 @@ fn record_fault(
     i: usize,
     w: usize,
 ) -> usize
-    requires { ⌜ (w ≡ capped (weight (tree (word (now obligation) (now second) m) i))) × Numbered (word (now obligation) (now second) m) (now numbers) (length (now numbers)) × (0 < i) × Room (now slots) i × Names (word (now obligation) (now second) m) (now slots) i ⌝ }
-    ensures { λ r. ⌜ (r ≡ recordFault mode (word (now (obligation .entry)) (now (second .entry)) m) i) × (r ≡ 0 → Names (word (now (obligation .entry)) (now (second .entry)) m) (now (slots .exit)) (i + 1)) ⌝ }
+    requires { ⌜ (w ≡ capped (weight (tree (word (now obligation) (now second) m) i))) × Numbered (word (now obligation) (now second) m) (now numbers) (length (now numbers)) × (0 < i) × Room (now slots) i × Names (word (now obligation) (now second) m) (now slots) i × Zeros (now seen) ⌝ }
+    ensures { λ r. ⌜ (r ≡ recordFault mode (word (now (obligation .entry)) (now (second .entry)) m) i) × Zeros (now (seen .exit)) × Names (word (now (obligation .entry)) (now (second .entry)) m) (now (slots .exit)) (lookedUp r i) ⌝ }
 {
     let why = words_fault(obligation, second, m, mode, i);
     if why != 0 {
@@ -119,7 +122,7 @@ fn record_fault(
 // Fills the table with the weights of records 1 to last.
 pub fn weigh_all(obligation: &[u8], second: &[u8], m: usize, table: &mut [u16], last: usize)
     requires { ⌜ (last < length (now table)) × Filled (word (now obligation) (now second) m) (now table) 1 ⌝ }
-    ensures { λ _. ⌜ Filled (word (now (obligation .entry)) (now (second .entry)) m) (now (table .exit)) (last + 1) ⌝ }
+    ensures { λ _. ⌜ Weighed (word (now (obligation .entry)) (now (second .entry)) m) (now (table .entry)) (now (table .exit)) (last + 1) ⌝ }
 {
     let mut i: usize = 1;
     while i <= last {
@@ -130,7 +133,7 @@ pub fn weigh_all(obligation: &[u8], second: &[u8], m: usize, table: &mut [u16], 
 }
 
 // The first record from `first` to `last` with a refusal, in file 1 for an obligation (mode 0), else 2. The table has the weights
-// below `first`, the slots the names; `seen` is scratch.
+// below `first`, the slots the names, and then those of the records that were read; `seen` is scratch, zeros before and zeros again.
 pub fn first_fault(
     obligation: &[u8],
     second: &[u8],
@@ -143,8 +146,8 @@ pub fn first_fault(
     first: usize,
     last: usize,
 ) -> Answer
-    requires { ⌜ (0 < first) × (last < length (now table)) × Filled (word (now obligation) (now second) m) (now table) first × Numbered (word (now obligation) (now second) m) (now numbers) (length (now numbers)) × Room (now slots) last × Names (word (now obligation) (now second) m) (now slots) first ⌝ }
-    ensures { λ r. ⌜ r ≡ firstFault (recordFault mode (word (now (obligation .entry)) (now (second .entry)) m)) (fileOf mode) (last + 1 - first) first ⌝ }
+    requires { ⌜ (0 < first) × (last < length (now table)) × Filled (word (now obligation) (now second) m) (now table) first × Numbered (word (now obligation) (now second) m) (now numbers) (length (now numbers)) × Room (now slots) last × Names (word (now obligation) (now second) m) (now slots) first × Zeros (now seen) ⌝ }
+    ensures { λ r. ⌜ (r ≡ firstFault (recordFault mode (word (now (obligation .entry)) (now (second .entry)) m)) (fileOf mode) (last + 1 - first) first) × Zeros (now (seen .exit)) × Names (word (now (obligation .entry)) (now (second .entry)) m) (now (slots .exit)) (namesTo r first last) × Weighed (word (now (obligation .entry)) (now (second .entry)) m) (now (table .entry)) (now (table .exit)) (endOf r first last) ⌝ }
 {
     let file = file_of(mode);
     let mut i = first;

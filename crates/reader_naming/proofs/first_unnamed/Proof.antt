@@ -1,23 +1,18 @@
 use borrow.Author.Needs.{needs}
-use Rattle.reader_naming.specs.Totals.{root-settled, unnamed-is}
 use Rattle.reader_naming.proofs.first_unnamed.Statement.{statement}
 use Rattle.reader_naming.proofs.first_unnamed.Tie as tie
 
 pub first-unnamed-spec : {M : Type 1} → statement M
 first-unnamed-spec = tie.close (tie.spec
-    -- word-of-requires: count-root-arg; 5 args
+    -- first-by-counts-requires: first-by-counts-arg2; 1 first-by-counts-arg; 6 args
     (λ c κs. search needs)
-    -- count-root-requires: word-of; 1 count-root-arg; 6 args
+    -- clear-requires: clear-arg; 2 passed; 4 named; 5 first-by-counts; 6 first-by-counts-arg2; 7 first-by-counts-arg; 12 args
     (λ c κs. search needs)
-    -- count-nodes-requires: count-nodes-arg2; 1 count-nodes-arg; 3 named; 4 count-root; 5 word-of; 6 count-root-arg; 11 args
-    (λ c κs. (search needs, search needs, root-settled _ _ _ _ (c .before .before .before .before .count-root .ensures) (c .before .before .before .before .before .before .before .before .before .before .before .pre .4)))
-    -- add-first-miscounted: first-miscounted-arg; 2 passed; 4 named2; 5 count-nodes; 6 count-nodes-arg2; 7 count-nodes-arg; 9 named; 10 count-root; 11 word-of; 12 count-root-arg; 17 args
-    (λ c. search needs)
-    -- first-miscounted-requires: first-miscounted-arg; 2 passed; 4 named2; 5 count-nodes; 6 count-nodes-arg2; 7 count-nodes-arg; 9 named; 10 count-root; 11 word-of; 12 count-root-arg; 17 args
+    -- clear-requires-2: clear-arg2; 2 named2; 3 clear; 4 clear-arg; 6 passed; 8 named; 9 first-by-counts; 10 first-by-counts-arg2; 11 first-by-counts-arg; 16 args
     (λ c κs. search needs)
-    -- same-length: first-miscounted; 1 first-miscounted-arg; 3 passed; 5 named2; 6 count-nodes; 7 count-nodes-arg2; 8 count-nodes-arg; 10 named; 11 count-root; 12 word-of; 13 count-root-arg; 18 args
+    -- same-length: 1 passed2; 2 clear2; 3 clear-arg2; 5 named2; 6 clear; 7 clear-arg; 9 passed; 11 named; 12 first-by-counts; 13 first-by-counts-arg2; 14 first-by-counts-arg; 19 args
     (λ c. search needs)
-    -- same-length-2: first-miscounted; 1 first-miscounted-arg; 3 passed; 5 named2; 6 count-nodes; 7 count-nodes-arg2; 8 count-nodes-arg; 10 named; 11 count-root; 12 word-of; 13 count-root-arg; 18 args
+    -- same-length-2: 1 passed2; 2 clear2; 3 clear-arg2; 5 named2; 6 clear; 7 clear-arg; 9 passed; 11 named; 12 first-by-counts; 13 first-by-counts-arg2; 14 first-by-counts-arg; 19 args
     (λ c. search needs)
-    -- returns: first-miscounted; 1 first-miscounted-arg; 3 passed; 5 named2; 6 count-nodes; 7 count-nodes-arg2; 8 count-nodes-arg; 10 named; 11 count-root; 12 word-of; 13 count-root-arg; 18 args
-    (λ c. unnamed-is _ _ _ _ _ _ _ _ _ (c .before .before .before .before .before .before .before .before .before .before .before .before .word-of .ensures) (c .before .before .before .before .before .before .before .before .before .before .before .count-root .ensures) (c .before .before .before .before .before .before .count-nodes .ensures) (search needs) (search needs) (c .first-miscounted .ensures)))
+    -- returns: 1 passed2; 2 clear2; 3 clear-arg2; 5 named2; 6 clear; 7 clear-arg; 9 passed; 11 named; 12 first-by-counts; 13 first-by-counts-arg2; 14 first-by-counts-arg; 19 args
+    (λ c. (c .before .before .before .before .before .before .before .before .before .before .before .before .first-by-counts .ensures, c .before .before .before .before .before .before .clear .ensures, c .before .before .clear2 .ensures)))

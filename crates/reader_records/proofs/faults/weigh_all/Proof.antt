@@ -4,13 +4,14 @@ use Prim.Native.Nat.{_+_, _-_, _<_, _≤_}
 use mathlib.Core.Path.{_≡_, refl}
 use lib.ListN.{length}
 use Rattle.reader.specs.Words.{word}
-use Rattle.reader_weights.specs.Weights.{Filled, filled-more, filled-end, capped-small}
+use Rattle.reader_weights.specs.Weights.{capped-small}
+use Rattle.reader_records.specs.Tables.{Weighed, weighed-none, weighed-more, weighed-end}
 use Rattle.reader_records.proofs.faults.weigh_all.Statement.{statement}
 use Rattle.reader_records.proofs.faults.weigh_all.Tie as tie
 
 abbrev Inv-loop : tie.InvT-loop
 Inv-loop obligation second m table₀ last i₀ table i =
-    (0 < i) × (i ≤ last + 1) × (length table ≡ length table₀) × Filled (word obligation second m) table i
+    (0 < i) × (i ≤ last + 1) × (length table ≡ length table₀) × Weighed (word obligation second m) table₀ table i
 
 abbrev μ-loop : tie.MeasureT-loop
 μ-loop obligation second m table₀ last i₀ table i = last + 1 - i
@@ -19,7 +20,7 @@ pub weigh-all-spec : {M : Type 1} → statement M
 weigh-all-spec = tie.close (tie.spec
     Inv-loop μ-loop
     -- loop-holds: 3 args
-    (λ c. (omega arith, omega arith, refl, search needs))
+    (λ c. (omega arith, omega arith, refl, search weighed-none))
     -- weigh-requires: weigh-arg; 1 loop-test; 2 loop; 6 args
     (λ c κs. search needs)
     -- cast-table: weigh; 1 weigh-arg; 2 loop-test; 3 loop; 7 args
@@ -33,8 +34,8 @@ weigh-all-spec = tie.close (tie.spec
     -- loop-less: weigh; 1 weigh-arg; 2 loop-test; 3 loop; 7 args
     (λ c. omega arith)
     -- loop-again: weigh; 1 weigh-arg; 2 loop-test; 3 loop; 7 args
-    (λ c. let l = c .before .before .before .loop in (omega arith, omega arith, search needs, filled-more _ (l .table) (l .i) _ (omega arith) (l .inv .3) (c .weigh .ensures)))
+    (λ c. let l = c .before .before .before .loop in (omega arith, omega arith, search needs, weighed-more _ _ (l .table) (l .i) _ (omega arith) (l .inv .3) (c .weigh .ensures)))
     -- same-length: loop-test; 1 loop; 5 args
     (λ c. search needs)
     -- returns: loop-test; 1 loop; 5 args
-    (λ c. search filled-end))
+    (λ c. search weighed-end))
