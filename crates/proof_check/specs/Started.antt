@@ -18,6 +18,7 @@ use Rattle.reader.specs.Answers.{orAnswer}
 use Rattle.reader.specs.Places.{mostRecords, hypothesisChain, negatedGoal, countOf, rootOf, reading}
 use Rattle.reader_chains.specs.Chains.{trees-zero, trees-step}
 use Rattle.reader_equality.specs.Least.{Numbered}
+use Rattle.reader_equality.specs.Tables.{Zeros, zeros-take, zeros-made}
 use Rattle.reader_laws.specs.File.{ReadObligation, ReadSecond, beside, lastOf, reading-parts, length-parts, header-parts, counts-parts}
 use Rattle.reader_laws.specs.Pair.{root-range, pair-goal-range, pair-hypotheses-range, pair-hypotheses-limit}
 use Rattle.reader_laws.specs.Under.{under, root-under}
@@ -36,13 +37,14 @@ pub record Starting (rd : Reader) (numbers memory : List ℕ) : Type 0 where
   pub goal : negatedGoal rd < length numbers
   pub few : length (linked rd (hypothesisChain rd)) ≤ 256
 
--- the pair passes places 1 to 12, and the tables have their lengths
+-- the pair passes places 1 to 12, the tables have their lengths, and the scratch table is zeros
 pub record Entering (ob s : List ℕ) (m : ℕ) (numbers memory scratch : List ℕ) : Type 0 where
   pub read : reading 1 ob s .refusal ≡ 0
   pub counted : m ≡ countOf ob
   pub all : length numbers ≡ m + countOf s + 1
   pub long : length memory ≡ 1024
-  pub wide : length scratch ≡ 4096
+  pub wide : length numbers ≤ length scratch
+  pub blank : Zeros scratch
 
 -- an empty sequent
 pub ready-none : (rd : Reader) (numbers memory : List ℕ) → Starting rd numbers memory → Ready rd numbers memory 0
@@ -143,14 +145,15 @@ module _ (ob s : List ℕ) (m : ℕ) (numbers memory scratch : List ℕ) (enter 
         few = rw same-reader (pair-hypotheses-limit 1 ob s (p .0) (p .1));
       }
 
-  pub enter-at : (table after marks : List ℕ) (h root : ℕ) → length table ≡ length numbers → length marks ≡ length scratch → Ready (word ob s m) table after h →
+  pub enter-at : (table after marks : List ℕ) (h root : ℕ) → length table ≡ length numbers → length marks ≡ length scratch → Zeros marks → Ready (word ob s m) table after h →
       root ≡ wordOf s 0 2 → At (word ob s m) table after marks h root
-  enter-at table after marks h root l k ready e =
+  enter-at table after marks h root l k z ready e =
       let p = both-read ob s (enter .read) in
       record {
         ready = ready;
         within = omega (arith, enter-last, root-range 1 ob s (p .0) (p .1) .1);
-        marks = omega (arith, enter-small, enter .wide);
+        marks = omega (arith, enter .wide);
+        blank = z;
       }
 
   pub enter-rule : (root : ℕ) → root ≡ wordOf s 0 2 → isRule 1 (word ob s m root 0) ≡ true
@@ -185,12 +188,15 @@ module _ (ob s : List ℕ) (a : Answer) (ea : a ≡ reading 1 ob s) where
     counts-few m n em en = omega (arith, obligation-few ob s check-read, proof-few ob s check-read)
 
     pub entering : (m n : ℕ) (numbers memory scratch : List ℕ) → m ≡ wordOf ob 0 1 → n ≡ wordOf s 0 1 → length numbers ≡ m + n + 1 → length memory ≡ 1024 →
-        length scratch ≡ 4096 → Entering ob s m numbers memory scratch
-    entering m n numbers memory scratch em en l k w = record { read = check-read; counted = em; all = rw (← en) l; long = k; wide = w }
+        length scratch ≡ m + n + 1 → Zeros scratch → Entering ob s m numbers memory scratch
+    entering m n numbers memory scratch em en l k w z = record { read = check-read; counted = em; all = rw (← en) l; long = k; wide = omega arith; blank = z }
 
 -- the parts of the tables that are filled
 pub part-length : (k : ℕ) → k ≤ 4096 → length {A = ℕ} (take k (replicate 4096 0)) ≡ k
 part-length k h = length-take-le k (replicate 4096 0) h
+
+pub part-zeros : (k : ℕ) → Zeros (take k (replicate 4096 0))
+part-zeros k = zeros-take k (replicate 4096 0) (zeros-made 4096)
 
 pub reaches-length : (k : ℕ) → k ≤ 4096 → length {A = ℕ} (take (2 * k) (replicate 8192 0)) ≡ 2 * k
 reaches-length k h = length-take-le (2 * k) (replicate 8192 0) (omega arith)

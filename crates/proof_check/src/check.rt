@@ -78,6 +78,6 @@ pub fn check_proof(obligation: &[u8], proof: &[u8]) -> Answer
         &mut numbers[..size],
         &mut reaches[..2 * size],
         &mut memory,
-        &mut scratch,
+        &mut scratch[..size],
     )
 }

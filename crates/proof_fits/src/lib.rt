@@ -16,6 +16,7 @@ ghost use Rattle.reader.specs.Chains.{itemTrees};
 ghost use Rattle.reader.specs.Variables.{isClosed};
 ghost use Rattle.reader_closedness.specs.Reaches.{Reached};
 ghost use Rattle.reader_equality.specs.Least.{Numbered};
+ghost use Rattle.reader_equality.specs.Tables.{Zeros};
 ghost use Rattle.proof_rules.specs.Rules.{Row};
 ghost use Rattle.proof_rules.specs.Check.{rowOf};
 ghost use Rattle.proof_rows.specs.Paths.{pathTree, partTrees};
@@ -87,7 +88,7 @@ fn fits_quantified(
     is_replaced(obligation, second, m, numbers, reaches, instance, t, body)
 }
 
-// A kind 22, its instance and types: is the instance its formula with the types put in? The table is scratch.
+// A kind 22, its instance and types: is the instance its formula with the types put in? The table is scratch, zeros before and zeros again.
 fn fits_instance(
     obligation: &[u8],
     second: &[u8],
@@ -97,8 +98,8 @@ fn fits_instance(
     scratch: &mut [usize],
     n: usize,
 ) -> bool
-    requires { ⌜ Numbered (word (now obligation) (now second) m) (now numbers) (length (now numbers)) × Reached (word (now obligation) (now second) m) (now reaches) (length (now reaches)) ⌝ }
-    ensures { λ r. ⌜ r ≡ fits45 (partTrees (word (now (obligation .entry)) (now (second .entry)) m) n) ⌝ }
+    requires { ⌜ Numbered (word (now obligation) (now second) m) (now numbers) (length (now numbers)) × Reached (word (now obligation) (now second) m) (now reaches) (length (now reaches)) × Zeros (now scratch) ⌝ }
+    ensures { λ r. ⌜ (r ≡ fits45 (partTrees (word (now (obligation .entry)) (now (second .entry)) m) n)) × Zeros (now (scratch .exit)) ⌝ }
 {
     let c = trees::lower_at(obligation, second, m, n, 1);
     let rest = trees::lower_at(obligation, second, m, c, 3);
@@ -192,7 +193,7 @@ fn fits_equality(
     fits_places(obligation, second, m, numbers, reaches, n)
 }
 
-// Do the parts of node n fit, as its rule asks? The table is scratch.
+// Do the parts of node n fit, as its rule asks? The table is scratch, zeros before and zeros again.
 pub fn fits(
     obligation: &[u8],
     second: &[u8],
@@ -202,8 +203,8 @@ pub fn fits(
     scratch: &mut [usize],
     n: usize,
 ) -> bool
-    requires { ⌜ Numbered (word (now obligation) (now second) m) (now numbers) (length (now numbers)) × Reached (word (now obligation) (now second) m) (now reaches) (length (now reaches)) ⌝ }
-    ensures { λ r. ⌜ r ≡ rowOf (word (now (obligation .entry)) (now (second .entry)) m) n .fits ⌝ }
+    requires { ⌜ Numbered (word (now obligation) (now second) m) (now numbers) (length (now numbers)) × Reached (word (now obligation) (now second) m) (now reaches) (length (now reaches)) × Zeros (now scratch) ⌝ }
+    ensures { λ r. ⌜ (r ≡ rowOf (word (now (obligation .entry)) (now (second .entry)) m) n .fits) × Zeros (now (scratch .exit)) ⌝ }
 {
     let k = words::word_at(obligation, second, m, n, 0);
     if k < 32 {

@@ -1,6 +1,7 @@
 // Freshness: a constant is in no member. The records from the constant's on are marked first, each once, so that shared records are not visited again.
 use reader::trees;
 use reader::words;
+use reader_equality::tables;
 ghost use mathlib.Core.Path.{_≡_};
 ghost use Prim.Native.Nat.{_+_, _<_, _≤_};
 ghost use lib.ListN.{length};
@@ -8,6 +9,7 @@ ghost use Rattle.reader.specs.Words.{word};
 ghost use Rattle.reader.specs.Trees.{tree};
 ghost use Rattle.reader.specs.Variables.{occurs};
 ghost use Rattle.reader.specs.Members.{isFresh};
+ghost use Rattle.reader_equality.specs.Tables.{Zeros};
 ghost use Rattle.proof_members.specs.Keys.{decoded, Normal};
 ghost use Rattle.proof_members.specs.Sequents.{sequent, Ready};
 ghost use Rattle.proof_fresh.specs.Marks.{Marked, markOf, constantAt, partMarked};
@@ -137,7 +139,7 @@ fn none_marked(
     true
 }
 
-// Is constant c fresh? The marks are scratch.
+// Is constant c fresh? The marks are scratch, zeros afterwards.
 pub fn is_fresh(
     obligation: &[u8],
     second: &[u8],
@@ -149,8 +151,10 @@ pub fn is_fresh(
     c: usize,
 ) -> bool
     requires { ⌜ Ready (word (now obligation) (now second) m) (now numbers) (now memory) h × (length (now numbers) ≤ length (now marks)) ⌝ }
-    ensures { λ r. ⌜ r ≡ isFresh (sequent (word (now (obligation .entry)) (now (second .entry)) m) (now (memory .entry)) h) c ⌝ }
+    ensures { λ r. ⌜ (r ≡ isFresh (sequent (word (now (obligation .entry)) (now (second .entry)) m) (now (memory .entry)) h) c) × Zeros (now (marks .exit)) ⌝ }
 {
     mark_all(obligation, second, m, marks, c, numbers.len());
-    none_marked(obligation, second, m, numbers, memory, marks, h, c)
+    let r = none_marked(obligation, second, m, numbers, memory, marks, h, c);
+    tables::clear(marks);
+    r
 }

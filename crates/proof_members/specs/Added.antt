@@ -4,8 +4,8 @@ use mathlib.Core.Path.{_≡_, refl, sym, ap, _∙_}
 use mathlib.Core.List.{List, [], _∷_, _++_, map, map-append}
 use mathlib.Core.Bool.{Bool, true, false}
 use lib.Dec.{ltb}
-use lib.ListN.{length, take, getD, set, length-set}
-use lib.Seq.{take-suc-set, take-set-le, getD-set-same, getD-set-other, getD-take}
+use lib.ListN.{length, take, drop, getD, set, length-set}
+use lib.Seq.{take-suc-set, take-set-le, drop-set-lt, getD-set-same, getD-set-other, getD-take}
 use native.Mathlib.Numerals.{add-one}
 use native.Mathlib.Omega.{arith}
 use borrow.Author.Tests.{ltb-true, ltb-false}
@@ -14,11 +14,12 @@ use Rattle.reader.specs.Trees.{Tree}
 use Rattle.proof_members.specs.Keys.{decoded, Normal, Stands}
 use Rattle.proof_members.specs.Sequents.{sequent, Ready}
 
--- after t was added to the h members of a memory
+-- after t was added to the h members of a memory, which is else as it was
 pub record Added (rd : Reader) (numbers before : List ℕ) (h : ℕ) (t : Tree) (after : List ℕ) : Type 0 where
   pub ready : Ready rd numbers after (h + 1)
   pub more : sequent rd after (h + 1) ≡ sequent rd before h ++ (t ∷ [])
   pub kept : take h after ≡ take h before
+  pub rest : drop (h + 1) after ≡ drop (h + 1) before
 
 -- the memory is kept up to h: its members stay
 pub sequent-kept : (rd : Reader) (before after : List ℕ) (h : ℕ) → take h after ≡ take h before → sequent rd after h ≡ sequent rd before h
@@ -52,6 +53,7 @@ stored rd numbers before h key t r p s =
       };
       more = rw (add-one, take-suc-set before h key within, map-append (decoded rd) (take h before) (key ∷ [])) (ap (λ (x : Tree). map (decoded rd) (take h before) ++ (x ∷ [])) (s .means));
       kept = take-set-le h before h key (omega arith);
+      rest = drop-set-lt (h + 1) before h key (omega arith);
     }
   where
     go : (i : ℕ) → i < h + 1 → (b : Bool) → ltb i h ≡ b → h < length before → Normal rd (length numbers) (getD (set before h key) i 0)

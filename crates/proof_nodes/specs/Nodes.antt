@@ -18,15 +18,17 @@ use Rattle.proof_rules.specs.Check.{rowOf, hasRoom, rowFault, nodeFault}
 use Rattle.reader.specs.Members.{member, isFresh, premisesFit, part}
 use Rattle.reader.specs.TreeLaws.{tree-zero}
 use Rattle.reader_chains.specs.Shapes.{atom-tree}
+use Rattle.reader_equality.specs.Tables.{Zeros}
 use Rattle.proof_members.specs.Sequents.{sequent, Ready, sequent-length, in-memory}
 use Rattle.proof_rows.specs.Paths.{partRecord, partTrees, part-tree}
 use Rattle.proof_rows.specs.Tables.{needsHold}
 
--- record i stands below the numbered ones, beside h members and a table of marks
+-- record i stands below the numbered ones, beside h members and a scratch table of zeros with an entry for each numbered one
 pub record At (rd : Reader) (numbers memory scratch : List ℕ) (h i : ℕ) : Type 0 where
   pub ready : Ready rd numbers memory h
   pub within : i < length numbers
   pub marks : length numbers ≤ length scratch
+  pub blank : Zeros scratch
 
 -- how many members a premise of rule k adds at most
 unfoldable pub mostAdded : ℕ → ℕ
@@ -179,7 +181,7 @@ pub at-low : (rd : Reader) (numbers memory scratch : List ℕ) (h n : ℕ) → A
 at-low rd numbers memory scratch h n here = here .ready .low
 
 -- the scratch table may change
-pub at-scratch : (rd : Reader) (numbers memory before after : List ℕ) (h n : ℕ) → length after ≡ length before → At rd numbers memory before h n →
+pub at-scratch : (rd : Reader) (numbers memory before after : List ℕ) (h n : ℕ) → length after ≡ length before → Zeros after → At rd numbers memory before h n →
     At rd numbers memory after h n
-at-scratch rd numbers memory before after h n e here =
-    record { ready = here .ready; within = here .within; marks = omega (arith, here .marks) }
+at-scratch rd numbers memory before after h n e z here =
+    record { ready = here .ready; within = here .within; marks = omega (arith, here .marks); blank = z }

@@ -10,6 +10,7 @@ ghost use mathlib.Core.Path.{_≡_};
 ghost use Prim.Native.Nat.{_≤_};
 ghost use lib.ListN.{length};
 ghost use Rattle.reader.specs.Words.{word};
+ghost use Rattle.reader_equality.specs.Tables.{Zeros};
 ghost use Rattle.reader.specs.Tests.{every};
 ghost use Rattle.reader.specs.Trees.{tree, atomOf};
 ghost use Rattle.reader_closedness.specs.Reaches.{Reached};
@@ -29,7 +30,7 @@ fn tree_atom(obligation: &[u8], second: &[u8], m: usize, i: usize) -> usize
     trees::atom_at(obligation, second, m, i)
 }
 
-// Is the constant of node n fresh, where its rule has one? The table is scratch.
+// Is the constant of node n fresh, where its rule has one? The table is scratch, zeros before and zeros again.
 fn constant_fresh(
     obligation: &[u8],
     second: &[u8],
@@ -41,7 +42,7 @@ fn constant_fresh(
     n: usize,
 ) -> bool
     requires { ⌜ At (word (now obligation) (now second) m) (now numbers) (now memory) (now scratch) h n ⌝ }
-    ensures { λ r. ⌜ r ≡ every (isFresh (sequent (word (now (obligation .entry)) (now (second .entry)) m) (now (memory .entry)) h)) (rowOf (word (now (obligation .entry)) (now (second .entry)) m) n .fresh) ⌝ }
+    ensures { λ r. ⌜ (r ≡ every (isFresh (sequent (word (now (obligation .entry)) (now (second .entry)) m) (now (memory .entry)) h)) (rowOf (word (now (obligation .entry)) (now (second .entry)) m) n .fresh)) × Zeros (now (scratch .exit)) ⌝ }
 {
     if words::word_at(obligation, second, m, n, 0) != 43 {
         return true;
@@ -104,7 +105,7 @@ fn form_fault(
     0
 }
 
-// Refusals 15 to 17 of node n, 0 for none. The table is scratch.
+// Refusals 15 to 17 of node n, 0 for none. The table is scratch, zeros before and zeros again.
 fn fit_fault(
     obligation: &[u8],
     second: &[u8],
@@ -117,7 +118,7 @@ fn fit_fault(
     n: usize,
 ) -> usize
     requires { ⌜ At (word (now obligation) (now second) m) (now numbers) (now memory) (now scratch) h n × Reached (word (now obligation) (now second) m) (now reaches) (length (now reaches)) ⌝ }
-    ensures { λ r. ⌜ r ≡ fitFault (word (now (obligation .entry)) (now (second .entry)) m) (sequent (word (now (obligation .entry)) (now (second .entry)) m) (now (memory .entry)) h) n ⌝ }
+    ensures { λ r. ⌜ (r ≡ fitFault (word (now (obligation .entry)) (now (second .entry)) m) (sequent (word (now (obligation .entry)) (now (second .entry)) m) (now (memory .entry)) h) n) × Zeros (now (scratch .exit)) ⌝ }
 {
     if !proof_fits::fits(obligation, second, m, numbers, reaches, scratch, n) {
         return 15;
@@ -132,7 +133,7 @@ fn fit_fault(
     0
 }
 
-// The refusal of node n at the sequent of h members, 0 for none. The table is scratch.
+// The refusal of node n at the sequent of h members, 0 for none. The table is scratch, zeros before and zeros again.
 pub fn node_fault(
     obligation: &[u8],
     second: &[u8],
@@ -145,7 +146,7 @@ pub fn node_fault(
     n: usize,
 ) -> usize
     requires { ⌜ At (word (now obligation) (now second) m) (now numbers) (now memory) (now scratch) h n × Reached (word (now obligation) (now second) m) (now reaches) (length (now reaches)) ⌝ }
-    ensures { λ r. ⌜ r ≡ nodeFault (word (now (obligation .entry)) (now (second .entry)) m) (sequent (word (now (obligation .entry)) (now (second .entry)) m) (now (memory .entry)) h) n ⌝ }
+    ensures { λ r. ⌜ (r ≡ nodeFault (word (now (obligation .entry)) (now (second .entry)) m) (sequent (word (now (obligation .entry)) (now (second .entry)) m) (now (memory .entry)) h) n) × Zeros (now (scratch .exit)) ⌝ }
 {
     let why = form_fault(obligation, second, m, numbers, memory, scratch, h, n);
     if why != 0 {

@@ -4,8 +4,8 @@ use mathlib.Core.Path.{_≡_, refl, sym, ap, _∙_}
 use mathlib.Core.List.{List, [], _∷_, _++_, append-assoc, append-nil}
 use mathlib.Core.Bool.{Bool, true, false}
 use lib.Dec.{eqb}
-use lib.ListN.{length, take, getD, length-append}
-use lib.Seq.{take-take}
+use lib.ListN.{length, take, drop, getD, length-append}
+use lib.Seq.{take-take, drop-drop}
 use native.Mathlib.Omega.{arith}
 use borrow.Author.Tests.{eq-eqb, ne-eqb}
 use Rattle.reader.specs.Words.{Reader}
@@ -18,12 +18,13 @@ use Rattle.proof_rows.specs.Paths.{pathRecord, partTrees}
 use Rattle.proof_rows.specs.Forms.{leftPath, rightPath, formTree, oneTree, twoTrees, form-unequal, form-negated, form-plain}
 use Rattle.proof_rows.specs.Tables.{addForm, adds-of}
 
--- after the trees were added to h members there are r
+-- after the trees were added to h members there are r; the memory is else as it was
 pub record Grown (rd : Reader) (numbers before : List ℕ) (h : ℕ) (trees : List Tree) (after : List ℕ) (r : ℕ) : Type 0 where
   pub ready : Ready rd numbers after r
   pub more : sequent rd after r ≡ sequent rd before h ++ trees
   pub kept : take h after ≡ take h before
   pub count : r ≡ h + length trees
+  pub rest : drop r after ≡ drop r before
 
 -- how many members a form is
 unfoldable pub formCount : ℕ → ℕ
@@ -55,13 +56,13 @@ module _ (rd : Reader) (numbers before : List ℕ) (h n form : ℕ) where
   pub grown-none : Ready rd numbers before h → form ≡ 0 → Grown rd numbers before h (oneTree (formTree (partTrees rd n)) form) before h
   grown-none ready z =
       rw (one-none (formTree (partTrees rd n)) form z)
-      (record { ready = ready; more = sym (append-nil (sequent rd before h)); kept = refl; count = omega arith })
+      (record { ready = ready; more = sym (append-nil (sequent rd before h)); kept = refl; count = omega arith; rest = refl })
 
   pub grown-one : (after : List ℕ) → (form ≡ 0 → ⊥) → Added rd numbers before h (formTree (partTrees rd n) form) after →
       Grown rd numbers before h (oneTree (formTree (partTrees rd n)) form) after (h + 1)
   grown-one after z added =
       rw (one-some (formTree (partTrees rd n)) form z)
-      (record { ready = added .ready; more = added .more; kept = added .kept; count = refl })
+      (record { ready = added .ready; more = added .more; kept = added .kept; count = refl; rest = added .rest })
 
   pub room-one : (form ≡ 0 → ⊥) → h + formCount form ≤ 1024 → h < 1024
   unfolding formCount ifEq
@@ -72,11 +73,14 @@ pub grown-two : (rd : Reader) (numbers a b c : List ℕ) (h i j : ℕ) (s t : Li
     Grown rd numbers a h (s ++ t) c j
 grown-two rd numbers a b c h i j s t f g =
     let le : h ≤ i = omega (arith, f .count) in
+    let e : j ≡ i + (j - i) = omega (arith, g .count) in
+    let past : drop (i + (j - i)) b ≡ drop (i + (j - i)) a = sym (drop-drop (j - i) i b) ∙ ap (λ (x : List ℕ). drop (j - i) x) (f .rest) ∙ drop-drop (j - i) i a in
     record {
       ready = g .ready;
       more = g .more ∙ ap (λ (x : List Tree). x ++ t) (f .more) ∙ append-assoc (sequent rd a h) s t;
       kept = sym (take-take h i c le) ∙ ap (λ (x : List ℕ). take h x) (g .kept) ∙ take-take h i b le ∙ f .kept;
       count = omega (arith, f .count, g .count, length-append s t);
+      rest = g .rest ∙ ap (λ (x : ℕ). drop x b) e ∙ past ∙ ap (λ (x : ℕ). drop x a) (sym e);
     }
 
 -- what premise b of node n adds

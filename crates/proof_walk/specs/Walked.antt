@@ -25,6 +25,7 @@ use Rattle.reader_laws.specs.Agree.{lower-most}
 use Rattle.reader_laws.specs.Entered.{node-count}
 use Rattle.proof_rules.specs.Check.{rowOf, hasRoom, rowFault, nodeFault, premiseSequent}
 use Rattle.reader.specs.Members.{premisesFit}
+use Rattle.reader_equality.specs.Tables.{Zeros}
 use Rattle.proof_members.specs.Sequents.{sequent, sequent-length, in-memory}
 use Rattle.proof_members.specs.Added.{sequent-kept, ready-kept}
 use Rattle.proof_rows.specs.Grown.{Grown}
@@ -127,18 +128,19 @@ module _ (rd : Reader) (numbers memory scratch : List ℕ) (h x : ℕ) (here : A
 
   -- at a premise's sequent
   pub premise-at : (n b i : ℕ) (after : List ℕ) → Grown rd numbers memory h (getD (rowOf rd n .adds) b []) after i → At rd numbers after scratch i x
-  premise-at n b i after g = record { ready = g .ready; within = here .within; marks = here .marks }
+  premise-at n b i after g = record { ready = g .ready; within = here .within; marks = here .marks; blank = here .blank }
 
   -- another record, where the memory was kept
   pub at-other : (y : ℕ) → y ≤ x → At rd numbers memory scratch h y
-  at-other y p = record { ready = here .ready; within = omega (arith, here .within); marks = here .marks }
+  at-other y p = record { ready = here .ready; within = omega (arith, here .within); marks = here .marks; blank = here .blank }
 
-  pub at-kept : (after marked : List ℕ) → length after ≡ length memory → length marked ≡ length scratch → take h after ≡ take h memory →
+  pub at-kept : (after marked : List ℕ) → length after ≡ length memory → length marked ≡ length scratch → Zeros marked → take h after ≡ take h memory →
       At rd numbers after marked h x
-  at-kept after marked l k e = record {
+  at-kept after marked l k z e = record {
     ready = ready-kept rd numbers memory after h l e (here .ready);
     within = here .within;
     marks = omega (arith, here .marks);
+    blank = z;
   }
 
 -- The way out of `walk_premise`.
@@ -202,14 +204,14 @@ module _ (rd : Reader) (numbers memory scratch : List ℕ) (h i : ℕ) (here : A
   pub at-lower : (x w : ℕ) → x ≡ lower rd i w → At rd numbers memory scratch h x
   at-lower x w e = at-other rd numbers memory scratch h i here x (omega (arith, lower-most rd i w))
 
-  pub at-marked : (marked : List ℕ) (x w : ℕ) → length marked ≡ length scratch → x ≡ lower rd i w → At rd numbers memory marked h x
-  at-marked marked x w k e =
-      at-other rd numbers memory marked h i (at-kept rd numbers memory scratch h i here memory marked refl k refl) x (omega (arith, lower-most rd i w))
+  pub at-marked : (marked : List ℕ) (x w : ℕ) → length marked ≡ length scratch → Zeros marked → x ≡ lower rd i w → At rd numbers memory marked h x
+  at-marked marked x w k z e =
+      at-other rd numbers memory marked h i (at-kept rd numbers memory scratch h i here memory marked refl k z refl) x (omega (arith, lower-most rd i w))
 
-  pub at-rest : (after marked : List ℕ) (x w : ℕ) → length after ≡ length memory → length marked ≡ length scratch → take h after ≡ take h memory →
+  pub at-rest : (after marked : List ℕ) (x w : ℕ) → length after ≡ length memory → length marked ≡ length scratch → Zeros marked → take h after ≡ take h memory →
       x ≡ lower rd i w → At rd numbers after marked h x
-  at-rest after marked x w l k kept e =
-      at-other rd numbers after marked h i (at-kept rd numbers memory scratch h i here after marked l k kept) x (omega (arith, lower-most rd i w))
+  at-rest after marked x w l k z kept e =
+      at-other rd numbers after marked h i (at-kept rd numbers memory scratch h i here after marked l k z kept) x (omega (arith, lower-most rd i w))
 
   at-few : i ≤ 4096
   at-few = omega (arith, here .within, here .ready .table .small)

@@ -10,6 +10,7 @@ ghost use lib.ListN.{length, take};
 ghost use Rattle.reader.specs.Words.{word};
 ghost use Rattle.reader.specs.Kinds.{isRule};
 ghost use Rattle.reader_closedness.specs.Reaches.{Reached};
+ghost use Rattle.reader_equality.specs.Tables.{Zeros};
 ghost use Rattle.proof_rules.specs.Check.{nodeFault, premiseSequent};
 ghost use Rattle.reader_laws.specs.Under.{under, underLinks};
 ghost use Rattle.proof_members.specs.Sequents.{sequent};
@@ -32,7 +33,7 @@ fn walk_premise(
     count: usize,
 ) -> Answer
     requires { ⌜ At (word (now obligation) (now second) m) (now numbers) (now memory) (now scratch) h x × (n < length (now numbers)) × (nodeFault (word (now obligation) (now second) m) (sequent (word (now obligation) (now second) m) (now memory) h) n ≡ 0) × (isRule 1 (word (now obligation) (now second) m x 0) ≡ true) × (count + under 1 (word (now obligation) (now second) m) x ≤ 4294967296) × Reached (word (now obligation) (now second) m) (now reaches) (length (now reaches)) ⌝ }
-    ensures { λ r. ⌜ (r ≡ visit (word (now (obligation .entry)) (now (second .entry)) m) x (premiseSequent (word (now (obligation .entry)) (now (second .entry)) m) (sequent (word (now (obligation .entry)) (now (second .entry)) m) (now (memory .entry)) h) n b) count) × (take h (now (memory .exit)) ≡ take h (now (memory .entry))) ⌝ }
+    ensures { λ r. ⌜ (r ≡ visit (word (now (obligation .entry)) (now (second .entry)) m) x (premiseSequent (word (now (obligation .entry)) (now (second .entry)) m) (sequent (word (now (obligation .entry)) (now (second .entry)) m) (now (memory .entry)) h) n b) count) × (take h (now (memory .exit)) ≡ take h (now (memory .entry))) × Zeros (now (scratch .exit)) ⌝ }
 {
     let i = adds::add_premise(obligation, second, m, numbers, memory, h, n, b);
     walk_node(
@@ -65,7 +66,7 @@ fn walk_links(
     count: usize,
 ) -> Answer
     requires { ⌜ At (word (now obligation) (now second) m) (now numbers) (now memory) (now scratch) h c × (n < length (now numbers)) × (nodeFault (word (now obligation) (now second) m) (sequent (word (now obligation) (now second) m) (now memory) h) n ≡ 0) × AreNodes (word (now obligation) (now second) m) c × (count + underLinks 1 (word (now obligation) (now second) m) c ≤ 4294967296) × (b + c ≤ 4294967296) × Reached (word (now obligation) (now second) m) (now reaches) (length (now reaches)) ⌝ }
-    ensures { λ r. ⌜ (r ≡ follow (word (now (obligation .entry)) (now (second .entry)) m) c n b (sequent (word (now (obligation .entry)) (now (second .entry)) m) (now (memory .entry)) h) count) × (take h (now (memory .exit)) ≡ take h (now (memory .entry))) ⌝ }
+    ensures { λ r. ⌜ (r ≡ follow (word (now (obligation .entry)) (now (second .entry)) m) c n b (sequent (word (now (obligation .entry)) (now (second .entry)) m) (now (memory .entry)) h) count) × (take h (now (memory .exit)) ≡ take h (now (memory .entry))) × Zeros (now (scratch .exit)) ⌝ }
 {
     if c == 0 {
         return Answer {
@@ -124,7 +125,7 @@ pub fn walk_node(
     count: usize,
 ) -> Answer
     requires { ⌜ At (word (now obligation) (now second) m) (now numbers) (now memory) (now scratch) h n × (isRule 1 (word (now obligation) (now second) m n 0) ≡ true) × (count + under 1 (word (now obligation) (now second) m) n ≤ 4294967296) × Reached (word (now obligation) (now second) m) (now reaches) (length (now reaches)) ⌝ }
-    ensures { λ r. ⌜ (r ≡ visit (word (now (obligation .entry)) (now (second .entry)) m) n (sequent (word (now (obligation .entry)) (now (second .entry)) m) (now (memory .entry)) h) count) × (take h (now (memory .exit)) ≡ take h (now (memory .entry))) ⌝ }
+    ensures { λ r. ⌜ (r ≡ visit (word (now (obligation .entry)) (now (second .entry)) m) n (sequent (word (now (obligation .entry)) (now (second .entry)) m) (now (memory .entry)) h) count) × (take h (now (memory .exit)) ≡ take h (now (memory .entry))) × Zeros (now (scratch .exit)) ⌝ }
 {
     if n == 0 {
         return Answer {

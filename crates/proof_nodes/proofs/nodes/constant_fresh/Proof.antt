@@ -8,7 +8,7 @@ constant-fresh-spec = tie.close (tie.spec
     -- word-at-requires: 5 args
     (λ c κs. search needs)
     -- returns: if1; 1 word-at; 7 args
-    (λ c. search fresh-other)
+    (λ c. (search fresh-other, c .before .before .before .before .before .before .before .pre .blank))
     -- part-of-requires: if1; 1 word-at; 7 args
     (λ c κs. search needs)
     -- tree-atom-requires: part-of; 1 if1; 2 word-at; 8 args
@@ -18,4 +18,4 @@ constant-fresh-spec = tie.close (tie.spec
     -- same-length: 1 scratch; 2 is-fresh; 3 is-fresh-arg; 4 tree-atom; 5 part-of; 6 if1; 7 word-at; 13 args
     (λ c. search needs)
     -- returns-2: 1 scratch; 2 is-fresh; 3 is-fresh-arg; 4 tree-atom; 5 part-of; 6 if1; 7 word-at; 13 args
-    (λ c. search fresh-constant))
+    (λ c. (search fresh-constant, c .before .before .is-fresh .ensures .1)))

@@ -11,10 +11,10 @@ node-fault-spec = tie.close (tie.spec
     -- same-length: if1; 1 form-fault; 2 form-fault-arg; 9 args
     (λ c. search needs)
     -- returns: if1; 1 form-fault; 2 form-fault-arg; 9 args
-    (λ c. search (node-is, ors))
+    (λ c. (search (node-is, ors), c .before .before .before .before .before .before .before .before .before .pre .0 .blank))
     -- fit-fault-requires: fit-fault-arg; 1 if1; 2 form-fault; 3 form-fault-arg; 10 args
     (λ c κs. search needs)
     -- same-length-2: 1 scratch; 2 fit-fault; 3 fit-fault-arg; 4 if1; 5 form-fault; 6 form-fault-arg; 13 args
     (λ c. search needs)
     -- returns-2: 1 scratch; 2 fit-fault; 3 fit-fault-arg; 4 if1; 5 form-fault; 6 form-fault-arg; 13 args
-    (λ c. search (node-is, ors)))
+    (λ c. (search (node-is, ors), c .before .before .fit-fault .ensures .1)))
