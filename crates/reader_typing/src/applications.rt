@@ -55,15 +55,15 @@ fn signature_below(
     obligation: &[u8],
     second: &[u8],
     m: usize,
-    seen: &mut [usize],
+    marks: &mut [usize],
     c: usize,
     p: usize,
 ) -> bool
-    requires { ⌜ Zeros (now seen) ⌝ }
-    ensures { λ r. ⌜ (r ≡ every (typesBelow p) (itemTrees (word (now (obligation .entry)) (now (second .entry)) m) c)) × Zeros (now (seen .exit)) ⌝ }
+    requires { ⌜ Zeros (now marks) ⌝ }
+    ensures { λ r. ⌜ (r ≡ every (typesBelow p) (itemTrees (word (now (obligation .entry)) (now (second .entry)) m) c)) × Zeros (now (marks .exit)) ⌝ }
 {
-    let r = items_below(obligation, second, m, seen, c, p);
-    tables::clear(seen);
+    let r = items_below(obligation, second, m, marks, c, p);
+    tables::clear(marks);
     r
 }
 

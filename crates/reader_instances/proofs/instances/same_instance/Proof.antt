@@ -14,4 +14,4 @@ same-instance-spec = tie.close (tie.spec
     -- same-length: 1 seen2; 2 clear; 3 clear-arg; 5 seen; 6 fits-at; 7 fits-at-arg; 8 lower-at; 13 args
     (λ c. search needs)
     -- returns: 1 seen2; 2 clear; 3 clear-arg; 5 seen; 6 fits-at; 7 fits-at-arg; 8 lower-at; 13 args
-    (λ c. (same-instance-is _ _ _ _ _ _ (c .before .before .before .before .before .before .before .before .lower-at .ensures) (c .before .before .before .before .before .before .fits-at .ensures .0), c .before .before .clear .ensures)))
+    (λ c. (same-instance-is _ _ _ _ _ _ (c .before .before .before .before .before .before .before .before .lower-at .ensures) (c .before .before .before .before .before .before .fits-at .ensures .0), search needs)))

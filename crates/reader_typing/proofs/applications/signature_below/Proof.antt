@@ -7,9 +7,9 @@ pub signature-below-spec : {M : Type 1} → statement M
 signature-below-spec = tie.close (tie.spec
     -- items-below-requires: items-below-arg; 4 args
     (λ c κs. known-none _ _ _ (c .before .before .before .before .pre))
-    -- clear-requires: clear-arg; 2 seen; 3 items-below; 4 items-below-arg; 8 args
+    -- clear-requires: clear-arg; 2 marks; 3 items-below; 4 items-below-arg; 8 args
     (λ c κs. search needs)
-    -- same-length: 1 seen2; 2 clear; 3 clear-arg; 5 seen; 6 items-below; 7 items-below-arg; 11 args
+    -- same-length: 1 marks2; 2 clear; 3 clear-arg; 5 marks; 6 items-below; 7 items-below-arg; 11 args
     (λ c. search needs)
-    -- returns: 1 seen2; 2 clear; 3 clear-arg; 5 seen; 6 items-below; 7 items-below-arg; 11 args
-    (λ c. (c .before .before .before .before .before .before .items-below .ensures, c .before .before .clear .ensures)))
+    -- returns: 1 marks2; 2 clear; 3 clear-arg; 5 marks; 6 items-below; 7 items-below-arg; 11 args
+    (λ c. (c .before .before .before .before .before .before .items-below .ensures, search needs)))
