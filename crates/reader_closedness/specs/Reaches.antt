@@ -1,6 +1,6 @@
 -- The table of reaches, and the ways out of the code that fills and reads it.
 use Prim.Native.Nat.{ℕ, _+_, _*_, _-_, _/_, _%_, _<_, _≤_}
-use mathlib.Core.Path.{_≡_, refl, sym, ap, _∙_}
+use mathlib.Core.Path.{_≡_, refl, sym, _∙_}
 use mathlib.Core.List.{List}
 use mathlib.Core.Bool.{Bool, true, false}
 use lib.Dec.{eqb, ltb, leb}
@@ -12,7 +12,7 @@ use Rattle.reader.specs.Words.{Reader, le32, wordFrom, wordOf, through, word}
 use Rattle.reader.specs.Tests.{ifEq, ifLt, ifTrue}
 use Rattle.reader.specs.Kinds.{role, isNumber, isSymbol}
 use Rattle.reader.specs.Trees.{child, atom, tree}
-use Rattle.reader.specs.TreeLaws.{tree-zero, tree-step, child-below}
+use Rattle.reader.specs.TreeLaws.{tree-zero, tree-step}
 use Rattle.reader.specs.Variables.{binders, indicesBelow, typesBelow}
 use Rattle.reader_chains.specs.Shapes.{atom-first}
 use Rattle.reader_closedness.specs.Reach.{larger, variable, crossed, ownReach, reach, indices-reach, types-reach}
@@ -29,15 +29,9 @@ entryReach rd e = reach (isOdd e) (tree rd (e / 2))
 pub record Reached (rd : Reader) (reaches : List ℕ) (n : ℕ) : Type 0 where
   pub holds : (e : ℕ) → e < n → getD reaches e 0 ≡ entryReach rd e
 
--- the entry of part w of entry e's record
-unfoldable pub partReach : Reader → List ℕ → ℕ → ℕ → ℕ
-partReach rd reaches e w = getD reaches (2 * child rd (e / 2) w + e % 2) 0
-
--- entry e, by what the table says of the parts
-unfoldable pub nodeReach : Reader → List ℕ → ℕ → ℕ
-nodeReach rd reaches e =
-    larger (ownReach (isOdd e) (rd (e / 2) 0) (atom rd (e / 2)))
-    (larger (partReach rd reaches e 1) (larger (partReach rd reaches e 2 - crossed (isOdd e) (rd (e / 2) 0)) (partReach rd reaches e 3)))
+-- the entry of record i
+unfoldable pub entryOf : Bool → ℕ → ℕ
+entryOf types i = ifTrue types (2 * i + 1) (2 * i)
 
 -- The ways out of the small functions.
 module _ (a b : ℕ) where
@@ -109,39 +103,47 @@ module _ (rd : Reader) (types : Bool) (i k v : ℕ) (ev : v ≡ variable types) 
       first true q = atom-first rd i 6 q refl refl
       first false q = atom-first rd i 9 q refl refl
 
--- The ways out of the code that fills the table.
-pub part-in : (rd : Reader) (e x w : ℕ) → 2 ≤ e → x ≡ child rd (e / 2) w → 2 * x + e % 2 < e
-part-in rd e x w two ex = omega (arith, child-below rd (e / 2) w (omega arith))
+-- The ways out of the recursion: the table has the records below n, or else the parts are put together.
+pub entry-type : (reaches : List ℕ) (types : Bool) (i r : ℕ) → types ≡ true → r ≡ getD reaches (2 * i + 1) 0 → r ≡ getD reaches (entryOf types i) 0
+unfolding entryOf ifTrue
+entry-type reaches types i r h e = simp (entryOf, ifTrue, h) e
 
-pub part-reach : (rd : Reader) (reaches : List ℕ) (e x w r : ℕ) → x ≡ child rd (e / 2) w → r ≡ getD reaches (2 * x + e % 2) 0 → r ≡ partReach rd reaches e w
-unfolding partReach
-part-reach rd reaches e x w r ex er = rw (← ex) er
-
-pub node-made : (rd : Reader) (reaches : List ℕ) (e k own x y z u p q r : ℕ) → k ≡ rd (e / 2) 0 → own ≡ ownReach (eqb (e % 2) 1) k (atom rd (e / 2)) →
-    x ≡ partReach rd reaches e 1 → y ≡ partReach rd reaches e 2 → z ≡ partReach rd reaches e 3 →
-    u ≡ y - crossed (eqb (e % 2) 1) k → p ≡ larger u z → q ≡ larger x p → r ≡ larger own q → r ≡ nodeReach rd reaches e
-unfolding nodeReach isOdd
-node-made rd reaches e k own x y z u p q r ek eo ex ey ez eu ep eq er = rw (← ek, ← eo, ← ex, ← ey, ← ez, ← eu, ← ep, ← eq) er
-
--- The ways out of `reach_of`.
-pub entry-none : (rd : Reader) (e : ℕ) → e < 2 → 0 ≡ entryReach rd e
-unfolding entryReach reach
-entry-none rd e h = let none : e / 2 ≡ 0 = omega arith in rw (none, tree-zero rd) refl
+pub entry-index : (reaches : List ℕ) (types : Bool) (i r : ℕ) → types ≡ false → r ≡ getD reaches (2 * i) 0 → r ≡ getD reaches (entryOf types i) 0
+unfolding entryOf ifTrue
+entry-index reaches types i r h e = simp (entryOf, ifTrue, h) e
 
 entry-is : (rd : Reader) (e i : ℕ) (types : Bool) → e / 2 ≡ i → isOdd e ≡ types → entryReach rd e ≡ reach types (tree rd i)
 unfolding entryReach
 entry-is rd e i types h s = rw (h, s) refl
 
-pub entry-node : (rd : Reader) (reaches : List ℕ) (e r : ℕ) → 2 ≤ e → Reached rd reaches e → r ≡ nodeReach rd reaches e → r ≡ entryReach rd e
-unfolding entryReach reach nodeReach partReach isOdd
-entry-node rd reaches e r two t er = rw (tree-step rd (e / 2) (omega arith), ← part 1, ← part 2, ← part 3) er
-  where
-    part : (w : ℕ) → getD reaches (2 * child rd (e / 2) w + e % 2) 0 ≡ reach (isOdd e) (tree rd (child rd (e / 2) w))
-    part w =
-        let low : 2 * child rd (e / 2) w + e % 2 < e = part-in rd e (child rd (e / 2) w) w two refl in
-        let half : (2 * child rd (e / 2) w + e % 2) / 2 ≡ child rd (e / 2) w = omega arith in
-        let side : (2 * child rd (e / 2) w + e % 2) % 2 ≡ e % 2 = omega arith in
-        t .holds (2 * child rd (e / 2) w + e % 2) low ∙ entry-is rd _ (child rd (e / 2) w) (isOdd e) half (ap (λ (s : ℕ). eqb s 1) side)
+entry-of : (rd : Reader) (types : Bool) (i : ℕ) → entryReach rd (entryOf types i) ≡ reach types (tree rd i)
+unfolding entryOf ifTrue isOdd
+entry-of rd true i = entry-is rd (2 * i + 1) i true (omega arith) (eq-eqb ((2 * i + 1) % 2) 1 (omega arith))
+entry-of rd false i = entry-is rd (2 * i) i false (omega arith) (ne-eqb (2 * i % 2) 1 (λ z. omega arith))
+
+entry-low : (types : Bool) (i n : ℕ) → i < n → entryOf types i < 2 * n
+unfolding entryOf ifTrue
+entry-low true i n h = omega arith
+entry-low false i n h = omega arith
+
+pub reach-known : (rd : Reader) (reaches : List ℕ) (n : ℕ) (types : Bool) (i r : ℕ) → Reached rd reaches (2 * n) → i < n →
+    r ≡ getD reaches (entryOf types i) 0 → r ≡ reach types (tree rd i)
+reach-known rd reaches n types i r t h e = e ∙ t .holds (entryOf types i) (entry-low types i n h) ∙ entry-of rd types i
+
+pub reach-none : (rd : Reader) (types : Bool) (i : ℕ) → i ≡ 0 → 0 ≡ reach types (tree rd i)
+unfolding reach
+reach-none rd types i h = rw (h, tree-zero rd) refl
+
+pub reach-node : (rd : Reader) (types : Bool) (i k own x y z u p q r : ℕ) → (i ≡ 0 → ⊥) → k ≡ rd i 0 → own ≡ ownReach types k (atom rd i) →
+    x ≡ reach types (tree rd (child rd i 1)) → y ≡ reach types (tree rd (child rd i 2)) → z ≡ reach types (tree rd (child rd i 3)) →
+    u ≡ y - crossed types k → p ≡ larger u z → q ≡ larger x p → r ≡ larger own q → r ≡ reach types (tree rd i)
+unfolding reach
+reach-node rd types i k own x y z u p q r n ek eo ex ey ez eu ep eq er =
+    rw (tree-step rd i (omega arith), ← ek, ← eo, ← ex, ← ey, ← ez, ← eu, ← ep, ← eq) er
+
+-- the part that the code holds
+pub reach-part : (rd : Reader) (types : Bool) (i w x r : ℕ) → x ≡ child rd i w → r ≡ reach types (tree rd x) → r ≡ reach types (tree rd (child rd i w))
+reach-part rd types i w x r ex er = rw (← ex) er
 
 -- The loop.
 pub reached-none : (rd : Reader) (reaches : List ℕ) → Reached rd reaches 0
@@ -157,24 +159,14 @@ reached-more rd reaches e v p t q = record { holds = λ j h. go j h (ltb j e) re
 pub reached-end : (rd : Reader) (reaches : List ℕ) (e n : ℕ) → n ≤ e → Reached rd reaches e → Reached rd reaches n
 reached-end rd reaches e n h t = record { holds = λ j p. t .holds j (omega arith) }
 
--- The ways out of the code that reads the table.
-module _ (rd : Reader) (reaches : List ℕ) (i : ℕ) (t : Reached rd reaches (length reaches)) (low : i < length reaches / 2) where
-  pub index-in : 2 * i < length reaches
-  index-in = omega arith
+-- entry e, by the recursion over records
+pub entry-made : (rd : Reader) (e r : ℕ) → r ≡ reach (eqb (e % 2) 1) (tree rd (e / 2)) → r ≡ entryReach rd e
+unfolding entryReach isOdd
+entry-made rd e r h = h
 
-  pub type-in : 2 * i + 1 < length reaches
-  type-in = omega arith
+-- The ways out of the tests.
+pub index-below : (rd : Reader) (i d r : ℕ) → r ≡ reach false (tree rd i) → leb r d ≡ indicesBelow d (tree rd i)
+index-below rd i d r e = rw e (sym (indices-reach d (tree rd i)))
 
-  index-entry : getD reaches (2 * i) 0 ≡ reach false (tree rd i)
-  unfolding isOdd
-  index-entry = t .holds (2 * i) index-in ∙ entry-is rd (2 * i) i false (omega arith) (ne-eqb (2 * i % 2) 1 (λ z. omega arith))
-
-  type-entry : getD reaches (2 * i + 1) 0 ≡ reach true (tree rd i)
-  unfolding isOdd
-  type-entry = t .holds (2 * i + 1) type-in ∙ entry-is rd (2 * i + 1) i true (omega arith) (eq-eqb ((2 * i + 1) % 2) 1 (omega arith))
-
-  pub index-below : (d r : ℕ) → r ≡ getD reaches (2 * i) 0 → leb r d ≡ indicesBelow d (tree rd i)
-  index-below d r e = rw (e, index-entry) (sym (indices-reach d (tree rd i)))
-
-  pub type-below : (p r : ℕ) → r ≡ getD reaches (2 * i + 1) 0 → leb r p ≡ typesBelow p (tree rd i)
-  type-below p r e = rw (e, type-entry) (sym (types-reach p (tree rd i)))
+pub type-below : (rd : Reader) (i p r : ℕ) → r ≡ reach true (tree rd i) → leb r p ≡ typesBelow p (tree rd i)
+type-below rd i p r e = rw e (sym (types-reach p (tree rd i)))

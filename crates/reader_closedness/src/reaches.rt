@@ -1,10 +1,15 @@
-// How far a tree's variables reach: its type variables, or else its indices.
+// How far a tree's variables reach: its type variables, or else its indices. A recursion over the parts of a record; a table in front of it
+// remembers what was found.
+use reader::trees;
 use reader::words;
+use reader_equality::tables;
 ghost use mathlib.Core.Path.{_≡_};
-ghost use Prim.Native.Nat.{_-_, _<_};
+ghost use Prim.Native.Nat.{_+_, _*_, _-_, _<_, _≤_};
+ghost use lib.ListN.{length, getD};
 ghost use Rattle.reader.specs.Words.{word};
-ghost use Rattle.reader.specs.Trees.{atom};
-ghost use Rattle.reader_closedness.specs.Reach.{larger, variable, crossed, ownReach};
+ghost use Rattle.reader.specs.Trees.{child, atom, tree};
+ghost use Rattle.reader_closedness.specs.Reach.{larger, variable, crossed, ownReach, reach};
+ghost use Rattle.reader_closedness.specs.Reaches.{Reached, entryOf};
 
 pub fn larger(a: usize, b: usize) -> usize
     ensures { λ r. ⌜ r ≡ larger a b ⌝ }
@@ -58,4 +63,60 @@ pub fn own_reach(
         return 0;
     }
     index_at(obligation, second, m, i) + 1
+}
+
+// What the table says of record i.
+fn entry_of(reaches: &[usize], types: bool, i: usize) -> usize
+    requires { ⌜ 2 * i + 1 < length (now reaches) ⌝ }
+    ensures { λ r. ⌜ r ≡ getD (now (reaches .entry)) (entryOf types i) 0 ⌝ }
+{
+    if types {
+        return tables::entry(reaches, 2 * i + 1);
+    }
+    tables::entry(reaches, 2 * i)
+}
+
+// How far part w of record i reaches.
+fn part_reach(
+    obligation: &[u8],
+    second: &[u8],
+    m: usize,
+    reaches: &[usize],
+    n: usize,
+    types: bool,
+    i: usize,
+    w: u8,
+) -> usize
+    requires { ⌜ (0 < i) × (2 * n ≤ length (now reaches)) × Reached (word (now obligation) (now second) m) (now reaches) (2 * n) ⌝ }
+    ensures { λ r. ⌜ r ≡ reach types (tree (word (now (obligation .entry)) (now (second .entry)) m) (child (word (now (obligation .entry)) (now (second .entry)) m) i w)) ⌝ }
+{
+    let x = trees::child_at(obligation, second, m, i, w);
+    reach_at(obligation, second, m, reaches, n, types, x)
+}
+
+// How far record i reaches: as the table says, which has the records below n, or else as far as its parts, which are smaller records.
+pub fn reach_at(
+    obligation: &[u8],
+    second: &[u8],
+    m: usize,
+    reaches: &[usize],
+    n: usize,
+    types: bool,
+    i: usize,
+) -> usize
+    requires { ⌜ (2 * n ≤ length (now reaches)) × Reached (word (now obligation) (now second) m) (now reaches) (2 * n) ⌝ }
+    ensures { λ r. ⌜ r ≡ reach types (tree (word (now (obligation .entry)) (now (second .entry)) m) i) ⌝ }
+{
+    if i < n {
+        return entry_of(reaches, types, i);
+    }
+    if i == 0 {
+        return 0;
+    }
+    let k = words::word_at(obligation, second, m, i, 0);
+    let own = own_reach(obligation, second, m, types, i, k);
+    let x = part_reach(obligation, second, m, reaches, n, types, i, 1);
+    let y = part_reach(obligation, second, m, reaches, n, types, i, 2);
+    let z = part_reach(obligation, second, m, reaches, n, types, i, 3);
+    larger(own, larger(x, larger(under(types, k, y), z)))
 }

@@ -1,6 +1,5 @@
-// Closedness of any record: by the table where it has the record.
-use reader_equality::tables;
-use reader_variables::variables;
+// Closedness of any record: its reach, compared.
+use crate::reaches::reach_at;
 ghost use mathlib.Core.Path.{_≡_};
 ghost use lib.ListN.{length};
 ghost use Rattle.reader.specs.Words.{word};
@@ -20,10 +19,7 @@ pub fn indices_below(
     requires { ⌜ Reached (word (now obligation) (now second) m) (now reaches) (length (now reaches)) ⌝ }
     ensures { λ r. ⌜ r ≡ indicesBelow d (tree (word (now (obligation .entry)) (now (second .entry)) m) i) ⌝ }
 {
-    if reaches.len() / 2 <= i {
-        return variables::indices_below(obligation, second, m, i, d);
-    }
-    tables::entry(reaches, 2 * i) <= d
+    reach_at(obligation, second, m, reaches, reaches.len() / 2, false, i) <= d
 }
 
 // Is every type variable of record i below p?
@@ -38,10 +34,7 @@ fn types_below(
     requires { ⌜ Reached (word (now obligation) (now second) m) (now reaches) (length (now reaches)) ⌝ }
     ensures { λ r. ⌜ r ≡ typesBelow p (tree (word (now (obligation .entry)) (now (second .entry)) m) i) ⌝ }
 {
-    if reaches.len() / 2 <= i {
-        return variables::types_below(obligation, second, m, i, p);
-    }
-    tables::entry(reaches, 2 * i + 1) <= p
+    reach_at(obligation, second, m, reaches, reaches.len() / 2, true, i) <= p
 }
 
 // Has record i no unbound index and no type variable?

@@ -1,10 +1,10 @@
 use borrow.Author.Needs.{needs}
 use native.Mathlib.Omega.{arith}
-use Prim.Native.Nat.{_*_, _-_, _<_}
+use Prim.Native.Nat.{_*_, _-_, _/_, _<_}
 use mathlib.Core.Path.{_≡_, refl}
 use lib.ListN.{length, set, length-set}
 use Rattle.reader.specs.Words.{word}
-use Rattle.reader_closedness.specs.Reaches.{Reached, reached-none, reached-more, reached-end}
+use Rattle.reader_closedness.specs.Reaches.{Reached, reached-none, reached-more, reached-end, entry-made}
 use Rattle.reader_closedness.proofs.fill.reach_all.Statement.{statement}
 use Rattle.reader_closedness.proofs.fill.reach_all.Tie as tie
 
@@ -19,18 +19,18 @@ reach-all-spec = tie.close (tie.spec
     Inv-loop μ-loop
     -- loop-holds: 3 args
     (λ c. (refl, omega arith, reached-none _ _))
-    -- reach-of-requires: reach-of-arg; 1 loop-test; 2 loop; 6 args
-    (λ c κs. let l = c .before .before .loop .inv in (omega arith, l .2))
-    -- mul-reaches: reach-of; 1 reach-of-arg; 2 loop-test; 3 loop; 7 args
+    -- reach-at-requires: reach-at-arg; 1 loop-test; 2 loop; 6 args
+    (λ c κs. let l = c .before .before .loop in (omega arith, reached-end _ _ (l .e) (2 * (l .e / 2)) (omega arith) (l .inv .2)))
+    -- mul-reaches: reach-at; 1 reach-at-arg; 2 loop-test; 3 loop; 7 args
     (λ c. search needs)
-    -- slice-write-reaches: reach-of; 1 reach-of-arg; 2 loop-test; 3 loop; 7 args
+    -- slice-write-reaches: reach-at; 1 reach-at-arg; 2 loop-test; 3 loop; 7 args
     (λ c. search needs)
-    -- add-e: reach-of; 1 reach-of-arg; 2 loop-test; 3 loop; 7 args
+    -- add-e: reach-at; 1 reach-at-arg; 2 loop-test; 3 loop; 7 args
     (λ c. search needs)
-    -- loop-less: reach-of; 1 reach-of-arg; 2 loop-test; 3 loop; 7 args
+    -- loop-less: reach-at; 1 reach-at-arg; 2 loop-test; 3 loop; 7 args
     (λ c. omega arith)
-    -- loop-again: reach-of; 1 reach-of-arg; 2 loop-test; 3 loop; 7 args
-    (λ c. let l = c .before .before .before .loop in let long : length (set (l .reaches) (l .e) (c .reach-of .result)) ≡ length (l .reaches) = length-set (l .reaches) (l .e) (c .reach-of .result) in (omega arith, omega arith, reached-more _ (l .reaches) (l .e) _ (omega arith) (l .inv .2) (c .reach-of .ensures)))
+    -- loop-again: reach-at; 1 reach-at-arg; 2 loop-test; 3 loop; 7 args
+    (λ c. let l = c .before .before .before .loop in let long : length (set (l .reaches) (l .e) (c .reach-at .result)) ≡ length (l .reaches) = length-set (l .reaches) (l .e) (c .reach-at .result) in (omega arith, omega arith, reached-more _ (l .reaches) (l .e) _ (omega arith) (l .inv .2) (entry-made _ (l .e) _ (c .reach-at .ensures))))
     -- same-length: loop-test; 1 loop; 5 args
     (λ c. c .before .loop .inv .0)
     -- returns: loop-test; 1 loop; 5 args
