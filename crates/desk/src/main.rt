@@ -11,7 +11,7 @@ ghost use Rattle.desk.specs.Enough.{obligationRead, proofRead};
 
 // Writes the line of the answer to two files at the end of the area; where it begins.
 fn put_answer(obligation: &[u8], proof: &[u8], out: &mut [u8; 84]) -> usize
-    ensures { λ r. ⌜ EndsIn (proofAnswer (now (obligation .entry)) (now (proof .entry))) (now (out .exit)) r ⌝ }
+    ensures { λ r. ⌜ EndsIn (proofAnswer (now (obligation .entry)) (now (proof .entry))) (now (out .entry)) (now (out .exit)) r ⌝ }
 {
     lines::put_line(out, check::check_proof(obligation, proof))
 }

@@ -21,7 +21,7 @@ struct Outcome {
 
 // Translates into the buffer, and writes the line of the answer at the end of the area.
 fn put_answer(obligation: &[u8], proof: &[u8], buffer: &mut [u8], out: &mut [u8; 105]) -> Outcome
-    ensures { λ r. ⌜ Shown (now (obligation .entry)) (now (proof .entry)) (now (buffer .entry)) (now (buffer .exit)) (now (out .exit)) (r .refusal) (r .length) (r .begin) ⌝ }
+    ensures { λ r. ⌜ Shown (now (obligation .entry)) (now (proof .entry)) (now (buffer .entry)) (now (buffer .exit)) (now (out .entry)) (now (out .exit)) (r .refusal) (r .length) (r .begin) ⌝ }
 {
     let translation = translate::translate(obligation, proof, buffer);
     let answer = translation.answer;

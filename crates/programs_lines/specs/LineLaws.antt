@@ -1,13 +1,13 @@
 -- Laws of numbers in decimal, and of bytes written before others.
 use Prim.Native.Nat.{ℕ, zero, suc, _+_, _-_, _/_, _%_, _^_, _<_, _≤_}
-use mathlib.Core.Path.{_≡_, refl, _∙_}
+use mathlib.Core.Path.{_≡_, refl, sym, ap, _∙_}
 use mathlib.Core.List.{List, [], _∷_, _++_}
 use native.Mathlib.Nat.{pow-suc}
 use native.Mathlib.Numerals.{sub-one}
 use native.Mathlib.Omega.{arith}
 use borrow.Author.Tests.{lt-ltb, le-ltb}
 use lib.ListN.{length, take, drop, set, length-set, length-drop}
-use lib.Seq.{take-all, drop-cons, getD-set-same, drop-set-lt, append-snoc}
+use lib.Seq.{take-all, take-take, take-set-le, drop-cons, getD-set-same, drop-set-lt, append-snoc}
 use Rattle.reader.specs.Tests.{ifLt}
 use Rattle.reader.specs.DownLaws.{Local, down-zero, down-step}
 use Rattle.reader.specs.declared.Answer.{Answer}
@@ -37,6 +37,18 @@ pub put-before : (l : List ℕ) (end b : ℕ) → 0 < end → end ≤ length l �
 put-before l (suc i) b p h =
     let inside : i < length (set l i b) = rw length-set h in
     rw (sub-one, drop-cons (set l i b) i 0 inside, getD-set-same l i b 0 h, drop-set-lt (suc i) l i b (omega arith))
+
+-- the bytes before it stay
+pub put-kept : (l : List ℕ) (end b : ℕ) → take (end - 1) (set l (end - 1) b) ≡ take (end - 1) l
+put-kept l end b = take-set-le (end - 1) l (end - 1) b (omega arith)
+
+-- what two writes leave, the second before the first
+pub kept-on : (r end : ℕ) (x y z : List ℕ) → r < end → take r x ≡ take r y → take end y ≡ take end z → take r x ≡ take r z
+kept-on r end x y z h p q = let below : r ≤ end = omega arith in p ∙ sym (take-take r end y below) ∙ ap (take r) q ∙ take-take r end z below
+
+-- the second a byte
+pub kept-byte : (r end : ℕ) (x y z : List ℕ) → r + 1 ≡ end → take r x ≡ take r y → take end y ≡ take end z → take r x ≡ take r z
+kept-byte r end x y z h = kept-on r end x y z (omega arith)
 
 -- a number of k digits at most, without its last digit
 shorter : (n k : ℕ) → 10 ≤ n → n < 10 ^ k → (1 < k) × (n / 10 < 10 ^ (k - 1))
@@ -81,8 +93,8 @@ unfolding line
 line-of a end s₁ s₂ s₃ s₄ none e₁ e₂ e₃ e₄ = rw (e₄, e₃, e₂, e₁, none)
 
 -- an area that ends in the line of an answer ends in that of an equal one
-pub ends-in-equal : (a b : Answer) (out : List ℕ) (begin : ℕ) → a ≡ b → EndsIn a out begin → EndsIn b out begin
-ends-in-equal a b out begin e w = rw (← e) w
+pub ends-in-equal : (a b : Answer) (before out : List ℕ) (begin : ℕ) → a ≡ b → EndsIn a before out begin → EndsIn b before out begin
+ends-in-equal a b before out begin e w = rw (← e) w
 
 -- five numbers written before each other, nothing after them
 pub translation-line-of : (a : Answer) (n : ℕ) (end s₁ s₂ s₃ s₄ s₅ : List ℕ) → end ≡ [] → s₁ ≡ decimal n ++ (10 ∷ end) → s₂ ≡ decimal (a .nodes) ++ (32 ∷ s₁)
@@ -91,16 +103,18 @@ unfolding translationLine
 translation-line-of a n end s₁ s₂ s₃ s₄ s₅ none e₁ e₂ e₃ e₄ e₅ = rw (e₅, e₄, e₃, e₂, e₁, none)
 
 -- the line of an answer and a length is that of an equal answer
-pub translation-ends-in-equal : (a b : Answer) (n : ℕ) (out : List ℕ) (begin : ℕ) → a ≡ b → TranslationEndsIn a n out begin → TranslationEndsIn b n out begin
-translation-ends-in-equal a b n out begin e w = rw (← e) w
+pub translation-ends-in-equal : (a b : Answer) (n : ℕ) (before out : List ℕ) (begin : ℕ) → a ≡ b →
+    TranslationEndsIn a n before out begin → TranslationEndsIn b n before out begin
+translation-ends-in-equal a b n before out begin e w = rw (← e) w
 
 -- The slice from the line's begin to the area's end is the line.
 
 slice-is : (out text : List ℕ) (begin size : ℕ) → size ≡ length out → drop begin out ≡ text → take (size - begin) (drop begin out) ≡ text
 slice-is out text begin size whole e = take-all (size - begin) (drop begin out) (omega (arith, length-drop begin out, whole)) ∙ e
 
-pub line-slice : (a : Answer) (out : List ℕ) (begin : ℕ) → EndsIn a out begin → take (84 - begin) (drop begin out) ≡ line a
-line-slice a out begin e = slice-is out (line a) begin 84 (e .whole) (e .text)
+pub line-slice : (a : Answer) (before out : List ℕ) (begin : ℕ) → EndsIn a before out begin → take (84 - begin) (drop begin out) ≡ line a
+line-slice a before out begin e = slice-is out (line a) begin 84 (e .whole) (e .text)
 
-pub translation-slice : (a : Answer) (n : ℕ) (out : List ℕ) (begin : ℕ) → TranslationEndsIn a n out begin → take (105 - begin) (drop begin out) ≡ translationLine a n
-translation-slice a n out begin e = slice-is out (translationLine a n) begin 105 (e .whole) (e .text)
+pub translation-slice : (a : Answer) (n : ℕ) (before out : List ℕ) (begin : ℕ) → TranslationEndsIn a n before out begin →
+    take (105 - begin) (drop begin out) ≡ translationLine a n
+translation-slice a n before out begin e = slice-is out (translationLine a n) begin 105 (e .whole) (e .text)

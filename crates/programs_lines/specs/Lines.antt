@@ -2,7 +2,7 @@
 use Prim.Native.Nat.{ℕ, _+_, _/_, _%_, _<_}
 use mathlib.Core.Path.{_≡_}
 use mathlib.Core.List.{List, [], _∷_, _++_}
-use lib.ListN.{length, drop}
+use lib.ListN.{length, take, drop}
 use Rattle.reader.specs.declared.Answer.{Answer}
 use Rattle.reader.specs.Tests.{ifLt}
 use Rattle.reader.specs.Down.{down}
@@ -22,11 +22,12 @@ decimal = down (digit 0 ∷ []) decimalStep
 unfoldable pub line : Answer → List ℕ
 line a = decimal (a .refusal) ++ (32 ∷ decimal (a .file) ++ (32 ∷ decimal (a .at) ++ (32 ∷ decimal (a .nodes) ++ (10 ∷ []))))
 
--- an area of 84 bytes whose last ones, from place `begin` on, are the line: four numbers of at most 20 digits, a byte after each
-pub record EndsIn (a : Answer) (out : List ℕ) (begin : ℕ) : Type 0 where
+-- an area of 84 bytes whose last ones, from place `begin` on, are the line: four numbers of at most 20 digits, a byte after each; those before it are as they were
+pub record EndsIn (a : Answer) (before out : List ℕ) (begin : ℕ) : Type 0 where
   pub whole : 84 ≡ length out
   pub inside : begin < 84
   pub text : drop begin out ≡ line a
+  pub kept : take begin out ≡ take begin before
 
 -- the four numbers and the derivation's length
 unfoldable pub translationLine : Answer → ℕ → List ℕ
@@ -35,7 +36,8 @@ translationLine a n =
     ++ (32 ∷ decimal (a .file) ++ (32 ∷ decimal (a .at) ++ (32 ∷ decimal (a .nodes) ++ (32 ∷ decimal n ++ (10 ∷ [])))))
 
 -- the same for an area of 105 bytes and a line of five numbers
-pub record TranslationEndsIn (a : Answer) (n : ℕ) (out : List ℕ) (begin : ℕ) : Type 0 where
+pub record TranslationEndsIn (a : Answer) (n : ℕ) (before out : List ℕ) (begin : ℕ) : Type 0 where
   pub whole : 105 ≡ length out
   pub inside : begin < 105
   pub text : drop begin out ≡ translationLine a n
+  pub kept : take begin out ≡ take begin before

@@ -3,13 +3,13 @@ use reader::Answer;
 ghost use mathlib.Core.Path.{_≡_};
 ghost use mathlib.Core.List.{_∷_, _++_};
 ghost use Prim.Native.Nat.{_+_, _≤_, _<_};
-ghost use lib.ListN.{length, drop};
+ghost use lib.ListN.{length, take, drop};
 ghost use Rattle.programs_lines.specs.Lines.{decimal, EndsIn, TranslationEndsIn};
 
 // Writes a byte before place `end`; its place.
 fn put_byte(out: &mut [u8], end: usize, byte: u8) -> usize
     requires { ⌜ (0 < end) × (end ≤ length (now out)) ⌝ }
-    ensures { λ r. ⌜ (r + 1 ≡ end) × (drop r (now (out .exit)) ≡ byte ∷ drop end (now (out .entry))) ⌝ }
+    ensures { λ r. ⌜ (r + 1 ≡ end) × (drop r (now (out .exit)) ≡ byte ∷ drop end (now (out .entry))) × (take r (now (out .exit)) ≡ take r (now (out .entry))) ⌝ }
 {
     let at = end - 1;
     out[at] = byte;
@@ -19,7 +19,7 @@ fn put_byte(out: &mut [u8], end: usize, byte: u8) -> usize
 // Writes a number in decimal before place `end`; where it begins.
 fn put_decimal(out: &mut [u8], end: usize, n: usize) -> usize
     requires { ⌜ (20 ≤ end) × (end ≤ length (now out)) ⌝ }
-    ensures { λ r. ⌜ (r < end) × (end ≤ r + 20) × (drop r (now (out .exit)) ≡ decimal n ++ drop end (now (out .entry))) ⌝ }
+    ensures { λ r. ⌜ (r < end) × (end ≤ r + 20) × (drop r (now (out .exit)) ≡ decimal n ++ drop end (now (out .entry))) × (take r (now (out .exit)) ≡ take r (now (out .entry))) ⌝ }
 {
     let mut begin = end;
     let mut rest = n;
@@ -33,7 +33,7 @@ fn put_decimal(out: &mut [u8], end: usize, n: usize) -> usize
 // Writes a number in decimal and one byte more before place `end`; where the number begins.
 fn put_number(out: &mut [u8], end: usize, n: usize, byte: u8) -> usize
     requires { ⌜ (21 ≤ end) × (end ≤ length (now out)) ⌝ }
-    ensures { λ r. ⌜ (r < end) × (end ≤ r + 21) × (drop r (now (out .exit)) ≡ decimal n ++ (byte ∷ drop end (now (out .entry)))) ⌝ }
+    ensures { λ r. ⌜ (r < end) × (end ≤ r + 21) × (drop r (now (out .exit)) ≡ decimal n ++ (byte ∷ drop end (now (out .entry)))) × (take r (now (out .exit)) ≡ take r (now (out .entry))) ⌝ }
 {
     let end = put_byte(out, end, byte);
     put_decimal(out, end, n)
@@ -41,7 +41,7 @@ fn put_number(out: &mut [u8], end: usize, n: usize, byte: u8) -> usize
 
 // Writes the line of an answer at the end of the area; where it begins.
 pub fn put_line(out: &mut [u8; 84], a: Answer) -> usize
-    ensures { λ r. ⌜ EndsIn a (now (out .exit)) r ⌝ }
+    ensures { λ r. ⌜ EndsIn a (now (out .entry)) (now (out .exit)) r ⌝ }
 {
     let nodes = put_number(out, 84, a.nodes, b'\n');
     let at = put_number(out, nodes, a.at, b' ');
@@ -51,7 +51,7 @@ pub fn put_line(out: &mut [u8; 84], a: Answer) -> usize
 
 // Writes the line of a translation's answer, with the derivation's length, at the end of the area; where it begins.
 pub fn put_translation(out: &mut [u8; 105], a: Answer, bytes: usize) -> usize
-    ensures { λ r. ⌜ TranslationEndsIn a bytes (now (out .exit)) r ⌝ }
+    ensures { λ r. ⌜ TranslationEndsIn a bytes (now (out .entry)) (now (out .exit)) r ⌝ }
 {
     let fifth = put_number(out, 105, bytes, b'\n');
     let fourth = put_number(out, fifth, a.nodes, b' ');

@@ -10,4 +10,4 @@ put-answer-spec = tie.close (tie.spec
     -- put-line-requires: check-derivation; 1 put-line-arg; 4 args
     (λ c κs. search needs)
     -- returns: put-line; 1 check-derivation; 2 put-line-arg; 5 args
-    (λ c. ends-in-equal _ _ _ _ (c .before .check-derivation .ensures) (c .put-line .ensures)))
+    (λ c. ends-in-equal _ _ _ _ _ (c .before .check-derivation .ensures) (c .put-line .ensures)))

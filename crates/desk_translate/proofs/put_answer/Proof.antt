@@ -13,4 +13,4 @@ put-answer-spec = tie.close (tie.spec
     -- same-length
     (λ c. search needs)
     -- returns: put-translation; 5 translate
-    (λ c. shown _ _ _ _ _ _ _ _ (c .before .before .before .before .before .translate .ensures) (c .put-translation .ensures) (omega arith)))
+    (λ c. shown _ _ _ _ _ _ _ _ _ (c .before .before .before .before .before .translate .ensures) (c .put-translation .ensures) (omega arith)))

@@ -1,6 +1,6 @@
 use borrow.Author.Needs.{needs}
 use native.Mathlib.Omega.{arith}
-use Rattle.programs_lines.specs.LineLaws.{put-before}
+use Rattle.programs_lines.specs.LineLaws.{put-before, put-kept}
 use Rattle.programs_lines.proofs.lines.put_byte.Statement.{statement}
 use Rattle.programs_lines.proofs.lines.put_byte.Tie as tie
 
@@ -13,4 +13,4 @@ put-byte-spec = tie.close (tie.spec
     -- same-length: 0 args
     (λ c. search needs)
     -- returns: 0 args
-    (λ c. (omega arith, put-before _ _ _ (c .pre .0) (c .pre .1))))
+    (λ c. (omega arith, put-before _ _ _ (c .pre .0) (c .pre .1), put-kept (c .args .out .now) (c .args .end) (c .args .byte))))

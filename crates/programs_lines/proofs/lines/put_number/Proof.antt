@@ -1,5 +1,6 @@
 use borrow.Author.Needs.{needs}
 use native.Mathlib.Omega.{arith}
+use Rattle.programs_lines.specs.LineLaws.{kept-on}
 use Rattle.programs_lines.proofs.lines.put_number.Statement.{statement}
 use Rattle.programs_lines.proofs.lines.put_number.Tie as tie
 
@@ -12,4 +13,7 @@ put-number-spec = tie.close (tie.spec
     -- same-length
     (λ c. search needs)
     -- returns
-    (λ c. (omega arith, omega arith, cc)))
+    (λ c.
+    let byte = c .before .before .before .before .before .before .put-byte .ensures in
+    let number = c .before .before .put-decimal .ensures in
+    (omega arith, omega arith, cc, kept-on _ _ _ _ _ (number .0) (number .3) (byte .2))))
