@@ -5,8 +5,8 @@ use mathlib.Core.List.{List}
 use mathlib.Core.Bool.{Bool, true, false, not}
 use mathlib.Core.Logic.{⊎-elim}
 use lib.Dec.{ltb}
-use lib.ListN.{getD, length, set}
-use lib.Seq.{getD-set-same, getD-set-other}
+use lib.ListN.{getD, length, drop, set}
+use lib.Seq.{getD-set-same, getD-set-other, drop-set-lt}
 use native.Mathlib.Nat.{eq-or-lt-of-le}
 use native.Mathlib.Omega.{arith}
 use borrow.Author.Tests.{ltb-true, ltb-false, not-true, not-false}
@@ -95,3 +95,8 @@ module _ (rd : Reader) (m n : ℕ) where
 
   pub ends-all : (table : List ℕ) (i : ℕ) → m + n < i → Ends rd m n table i → Ends rd m n table (m + n + 1)
   ends-all table i h filled = record { holds = λ x p. filled .holds x (omega arith) }
+
+-- an entry up to `last` written: those past it stay
+pub past-kept : (last i : ℕ) (table first : List ℕ) (v : ℕ) → i ≤ last → drop (last + 1) table ≡ drop (last + 1) first →
+    drop (last + 1) (set table i v) ≡ drop (last + 1) first
+past-kept last i table first v h e = drop-set-lt (last + 1) table i v (omega arith) ∙ e

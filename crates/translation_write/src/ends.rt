@@ -4,7 +4,7 @@ use reader::words;
 use translation_lines::lines;
 ghost use mathlib.Core.Path.{_≡_};
 ghost use Prim.Native.Nat.{_+_, _<_};
-ghost use lib.ListN.{length};
+ghost use lib.ListN.{length, drop};
 ghost use Rattle.reader.specs.Words.{word};
 ghost use Rattle.reader.specs.Tests.{ifLt};
 ghost use Rattle.translation_rules.specs.Output.{startOf};
@@ -29,10 +29,10 @@ fn base_after(m: usize, i: usize, base: usize, size: usize) -> usize
     if m < i { base + size } else { base }
 }
 
-// Fills the table with the concluding node of the block of every record, also where it is no rule node, and returns where the start's block starts.
+// Fills the table with the concluding node of the block of every record, also where it is no rule node, and returns where the start's block starts. Entries past those stay.
 pub fn fill_ends(obligation: &[u8], proof: &[u8], m: usize, n: usize, ends: &mut [usize]) -> usize
     requires { ⌜ (m + n < length (now ends)) × (m + n < 4294967296) ⌝ }
-    ensures { λ r. ⌜ (r ≡ startOf (word (now (obligation .entry)) (now (proof .entry)) m) m n) × Ends (word (now (obligation .entry)) (now (proof .entry)) m) m n (now (ends .exit)) (m + n + 1) ⌝ }
+    ensures { λ r. ⌜ (r ≡ startOf (word (now (obligation .entry)) (now (proof .entry)) m) m n) × Ends (word (now (obligation .entry)) (now (proof .entry)) m) m n (now (ends .exit)) (m + n + 1) × (drop (m + n + 1) (now (ends .exit)) ≡ drop (m + n + 1) (now (ends .entry))) ⌝ }
 {
     let mut base = m + n + 1;
     let mut i = 0;

@@ -2,10 +2,10 @@ use borrow.Author.Needs.{needs}
 use native.Mathlib.Omega.{arith}
 use Prim.Native.Nat.{_+_, _*_, _-_, _≤_}
 use mathlib.Core.Path.{_≡_, refl, _∙_}
-use lib.ListN.{length, length-set}
+use lib.ListN.{length, drop, length-set}
 use Rattle.reader.specs.Words.{word}
 use Rattle.translation_rules.specs.Output.{baseOf}
-use Rattle.translation_write.specs.Ends.{Ends, base-first, base-next, base-last, base-bounds, ends-none, ends-more, ends-all}
+use Rattle.translation_write.specs.Ends.{Ends, base-first, base-next, base-last, base-bounds, ends-none, ends-more, ends-all, past-kept}
 use Rattle.translation_write.proofs.ends.fill_ends.Statement.{statement}
 use Rattle.translation_write.proofs.ends.fill_ends.Tie as tie
 
@@ -17,6 +17,7 @@ Inv-loop obligation proof m n ends₀ base₀ i₀ ends base i =
     × (length ends ≡ length ends₀)
     × (base ≡ baseOf (word obligation proof m) m n i)
     × Ends (word obligation proof m) m n ends i
+    × (drop (m + n + 1) ends ≡ drop (m + n + 1) ends₀)
 
 abbrev μ-loop : tie.MeasureT-loop
 μ-loop obligation proof m n ends₀ base₀ i₀ ends base i = m + n + 1 - i
@@ -29,7 +30,7 @@ fill-ends-spec = tie.close (tie.spec
     -- add-base-2: 3 args
     (λ c. search needs)
     -- loop-holds: 3 args
-    (λ c. (omega arith, omega arith, omega arith, refl, base-first _ _ _, ends-none _ _ _ _))
+    (λ c. (omega arith, omega arith, omega arith, refl, base-first _ _ _, ends-none _ _ _ _, refl))
     -- add-loop: loop; 4 args
     (λ c. search needs)
     -- size-at-requires: loop-test; 1 loop; 5 args
@@ -59,9 +60,10 @@ fill-ends-spec = tie.close (tie.spec
       length-set (l .ends) _ _ ∙ l .inv .3,
       base-next _ _ _ _ _ _ _ (l .inv .4) (s .is) (c .base-after .ensures),
       ends-more _ _ _ (l .ends) _ _ _ (omega arith) (l .inv .4) (s .is) (l .inv .5),
+      past-kept _ _ (l .ends) _ _ (c .before .before .loop-test .taken) (l .inv .6),
     ))
     -- same-length: loop-test; 1 loop; 5 args
     (λ c. search needs)
     -- returns: loop-test; 1 loop; 5 args
     (λ c.
-    let l = c .before .loop in (base-last _ _ _ _ _ (l .inv .0) (omega arith) (l .inv .4), ends-all _ _ _ _ _ (omega arith) (l .inv .5))))
+    let l = c .before .loop in (base-last _ _ _ _ _ (l .inv .0) (omega arith) (l .inv .4), ends-all _ _ _ _ _ (omega arith) (l .inv .5), l .inv .6)))
