@@ -1,0 +1,31 @@
+// Thin functions over a view: it is made, and a record is fetched through it. Other crates fetch by `record_of`, whose parameters are plain.
+use crate::Record;
+use crate::View;
+use crate::records;
+ghost use mathlib.Core.Path.{_≡_};
+ghost use Rattle.reader.specs.Words.{word};
+ghost use Rattle.reader_view.specs.Records.{RecordIs};
+
+pub fn new<'a, 'b>(obligation: &'a [u8], second: &'b [u8], m: usize) -> View<'a, 'b>
+    ensures { λ r. ⌜ (r .obligation ≡ obligation .entry) × (r .second ≡ second .entry) × (r .m ≡ m) ⌝ }
+{
+    View {
+        obligation,
+        second,
+        m,
+    }
+}
+
+// Record i.
+pub fn record_at<'a, 'b>(view: View<'a, 'b>, i: usize) -> Record
+    ensures { λ r. ⌜ RecordIs (word (now (view .entry .obligation)) (now (view .entry .second)) (view .entry .m)) i r ⌝ }
+{
+    records::record(view.obligation, view.second, view.m, i)
+}
+
+// Record i of two files, through a view of them.
+pub fn record_of(obligation: &[u8], second: &[u8], m: usize, i: usize) -> Record
+    ensures { λ r. ⌜ RecordIs (word (now (obligation .entry)) (now (second .entry)) m) i r ⌝ }
+{
+    record_at(new(obligation, second, m), i)
+}
