@@ -11,11 +11,11 @@ use Rattle.reader.specs.Words.{Reader}
 use Rattle.reader.specs.Tests.{both, between, every, ifEq}
 use Rattle.reader.specs.TestLaws.{eq-yes, eq-no, lt-yes, lt-no}
 use Rattle.reader.specs.Trees.{lower}
-use Rattle.reader.specs.Kinds.{classAt, roleAt}
+use Rattle.reader.specs.Kinds.{role, classAt, roleAt}
 use Rattle.reader.specs.Chains.{linked, items}
 use Rattle.reader.specs.TreeLaws.{items-zero, items-step}
 use Rattle.reader.specs.ChainLaws.{linked-length, linked-none}
-use Rattle.reader.specs.Records.{Reference, anyRecord, references, mayBeZero, wantedClass, itemClass, hasClass, itemsHaveClass, refers, refersAt, typesFit, argumentsFit, itemChainsFit}
+use Rattle.reader.specs.Records.{inRange, rangeAt, Reference, anyRecord, references, mayBeZero, wantedClass, itemClass, hasClass, itemsHaveClass, refers, refersAt, typesFit, argumentsFit, itemChainsFit}
 
 -- The columns of the table of references, at its entries and past its end.
 abbrev bit : Bool → ℕ
@@ -106,9 +106,14 @@ module _ (rd : Reader) (i r a : ℕ) where
   unfolding refers pointsWell
   refers-some h z t e = lt-no r 6 _ _ t h (eq-no a 0 _ _ t z e)
 
-pub refers-is : (rd : Reader) (i w q a : ℕ) (t : Bool) → q ≡ roleAt rd i w → a ≡ rd i w → t ≡ refers rd i q a → t ≡ refersAt rd i w
-unfolding refersAt
-refers-is rd i w q a t eq ea e = rw (← eq, ← ea) e
+-- A word in its role, by the record's kind and words.
+pub refers-is : (rd : Reader) (i w k q a : ℕ) (t : Bool) → k ≡ rd i 0 → a ≡ rd i w → q ≡ role k w → t ≡ refers rd i q a → t ≡ refersAt rd i w
+unfolding refersAt roleAt
+refers-is rd i w k q a t ek ea eq e = rw (← ek, ← eq, ← ea) e
+
+pub range-is : (rd : Reader) (i w k a : ℕ) (t : Bool) → k ≡ rd i 0 → a ≡ rd i w → t ≡ inRange (role k w) a → t ≡ rangeAt rd i w
+unfolding rangeAt roleAt
+range-is rd i w k a t ek ea e = rw (← ek, ← ea) e
 
 -- chains of types
 pub types-none : (rd : Reader) (c : ℕ) → c ≡ 0 → false ≡ typesFit rd c

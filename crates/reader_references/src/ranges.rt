@@ -1,9 +1,11 @@
 // Refusals 3 and 4: the kind of a record, and the ranges of its words.
 use reader::kinds;
 use reader::words;
+use reader_view::views;
 ghost use mathlib.Core.Path.{_≡_};
 ghost use Rattle.reader.specs.Words.{word};
-ghost use Rattle.reader.specs.Records.{kindFits, inRange, rangeAt, rangesFit};
+ghost use Rattle.reader.specs.Kinds.{role};
+ghost use Rattle.reader.specs.Records.{kindFits, inRange, rangesFit};
 
 // Is the kind of record i one of a file of kind `mode`?
 pub fn kind_fits(obligation: &[u8], second: &[u8], m: usize, mode: u8, i: usize) -> bool
@@ -34,24 +36,23 @@ fn in_range(role: u8, a: usize) -> bool
     true
 }
 
-fn range_at(obligation: &[u8], second: &[u8], m: usize, i: usize, w: u8) -> bool
-    ensures { λ r. ⌜ r ≡ rangeAt (word (now (obligation .entry)) (now (second .entry)) m) i w ⌝ }
+// Is word w, which is a, of a record of kind k in its range?
+fn range_of(k: usize, w: u8, a: usize) -> bool
+    ensures { λ r. ⌜ r ≡ inRange (role k w) a ⌝ }
 {
-    in_range(
-        kinds::role_at(obligation, second, m, i, w),
-        words::word_at(obligation, second, m, i, w),
-    )
+    in_range(kinds::role_of(k, w), a)
 }
 
 // Are the words of record i in their ranges?
 pub fn ranges_fit(obligation: &[u8], second: &[u8], m: usize, i: usize) -> bool
     ensures { λ r. ⌜ r ≡ rangesFit (word (now (obligation .entry)) (now (second .entry)) m) i ⌝ }
 {
-    if !range_at(obligation, second, m, i, 1) {
+    let record = views::record_of(obligation, second, m, i);
+    if !range_of(record.kind, 1, record.a) {
         return false;
     }
-    if !range_at(obligation, second, m, i, 2) {
+    if !range_of(record.kind, 2, record.b) {
         return false;
     }
-    range_at(obligation, second, m, i, 3)
+    range_of(record.kind, 3, record.c)
 }

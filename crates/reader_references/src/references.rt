@@ -2,7 +2,7 @@
 use reader::chains;
 use reader::kinds;
 use reader::trees;
-use reader::words;
+use reader_view::views;
 ghost use mathlib.Core.Path.{_≡_};
 ghost use Rattle.reader.specs.Words.{word};
 ghost use Rattle.reader.specs.Tests.{every};
@@ -114,25 +114,34 @@ fn refers_well(obligation: &[u8], second: &[u8], m: usize, i: usize, role: u8, a
     points_well(obligation, second, m, i, role, a)
 }
 
-fn refers_at(obligation: &[u8], second: &[u8], m: usize, i: usize, w: u8) -> bool
+// Does word w, which is a, of record i, whose kind is k, refer well?
+fn refers_at(
+    obligation: &[u8],
+    second: &[u8],
+    m: usize,
+    i: usize,
+    k: usize,
+    w: u8,
+    a: usize,
+) -> bool
+    requires { ⌜ (k ≡ word (now obligation) (now second) m i 0) × (a ≡ word (now obligation) (now second) m i w) ⌝ }
     ensures { λ r. ⌜ r ≡ refersAt (word (now (obligation .entry)) (now (second .entry)) m) i w ⌝ }
 {
-    let role = kinds::role_at(obligation, second, m, i, w);
-    let a = words::word_at(obligation, second, m, i, w);
-    refers_well(obligation, second, m, i, role, a)
+    refers_well(obligation, second, m, i, kinds::role_of(k, w), a)
 }
 
 // Do the references of record i fit?
 pub fn references_fit(obligation: &[u8], second: &[u8], m: usize, i: usize) -> bool
     ensures { λ r. ⌜ r ≡ referencesFit (word (now (obligation .entry)) (now (second .entry)) m) i ⌝ }
 {
-    if !refers_at(obligation, second, m, i, 1) {
+    let record = views::record_of(obligation, second, m, i);
+    if !refers_at(obligation, second, m, i, record.kind, 1, record.a) {
         return false;
     }
-    if !refers_at(obligation, second, m, i, 2) {
+    if !refers_at(obligation, second, m, i, record.kind, 2, record.b) {
         return false;
     }
-    refers_at(obligation, second, m, i, 3)
+    refers_at(obligation, second, m, i, record.kind, 3, record.c)
 }
 
 // Has a chain of types 1 to 5 links?
@@ -155,30 +164,15 @@ fn arguments_fit(obligation: &[u8], second: &[u8], m: usize, c: usize) -> bool
 pub fn item_chains_fit(obligation: &[u8], second: &[u8], m: usize, i: usize) -> bool
     ensures { λ r. ⌜ r ≡ itemChainsFit (word (now (obligation .entry)) (now (second .entry)) m) i ⌝ }
 {
-    let k = words::word_at(obligation, second, m, i, 0);
-    if k == 8 {
-        return types_fit(
-            obligation,
-            second,
-            m,
-            words::word_at(obligation, second, m, i, 1),
-        );
+    let record = views::record_of(obligation, second, m, i);
+    if record.kind == 8 {
+        return types_fit(obligation, second, m, record.a);
     }
-    if k != 13 {
+    if record.kind != 13 {
         return true;
     }
-    if !types_fit(
-        obligation,
-        second,
-        m,
-        words::word_at(obligation, second, m, i, 2),
-    ) {
+    if !types_fit(obligation, second, m, record.b) {
         return false;
     }
-    arguments_fit(
-        obligation,
-        second,
-        m,
-        words::word_at(obligation, second, m, i, 3),
-    )
+    arguments_fit(obligation, second, m, record.c)
 }
