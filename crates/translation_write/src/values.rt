@@ -2,6 +2,7 @@
 use reader::trees;
 use reader::words;
 use reader_chains::chains;
+use reader_view::views;
 ghost use mathlib.Core.Path.{_≡_};
 ghost use mathlib.Core.List.{List};
 ghost use Prim.Native.Nat.{ℕ, _+_, _<_, _≤_};
@@ -44,24 +45,23 @@ pub fn entry_at(table: &[usize], x: usize) -> usize
 fn type_at(obligation: &[u8], proof: &[u8], m: usize, x: usize) -> usize
     ensures { λ r. ⌜ r ≡ typeRecord (word (now (obligation .entry)) (now (proof .entry)) m) x ⌝ }
 {
-    let k = words::word_at(obligation, proof, m, x, 0);
-    if k == 7 {
-        return words::word_at(obligation, proof, m, x, 1);
+    let record = views::record_of(obligation, proof, m, x);
+    if record.kind == 7 {
+        return record.a;
     }
-    if k == 9 {
-        return words::word_at(obligation, proof, m, x, 2);
+    if record.kind == 9 {
+        return record.b;
     }
-    if k == 10 {
-        return words::word_at(obligation, proof, m, x, 3);
+    if record.kind == 10 {
+        return record.c;
     }
-    if k == 11 {
-        return words::word_at(obligation, proof, m, x, 3);
+    if record.kind == 11 {
+        return record.c;
     }
-    let second = words::word_at(obligation, proof, m, x, 2);
-    if k == 12 {
-        return second;
+    if record.kind == 12 {
+        return record.b;
     }
-    words::word_at(obligation, proof, m, second, 1)
+    words::word_at(obligation, proof, m, record.b, 1)
 }
 
 // The value of a cell that looks into part 0, or of the node itself.
