@@ -62,7 +62,7 @@ part-below rd types i w p = go (isPart types (roleAt rd i w))
     go false = p
 
 -- where types count, the parts are the children
-part-child : (rd : Reader) (i w : ℕ) → partAt rd true i w ≡ child rd i w
+pub part-child : (rd : Reader) (i w : ℕ) → partAt rd true i w ≡ child rd i w
 unfolding partAt isPart child ifLt ifTrue
 part-child rd i w = go (ltb (roleAt rd i w) 10)
   where

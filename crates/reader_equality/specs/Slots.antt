@@ -80,6 +80,9 @@ pub record Ended (keyOf : ℕ → Key) (slots : List ℕ) (k : Key) (i r : ℕ) 
 pub search-start : (keyOf : ℕ → Key) (slots : List ℕ) (k : Key) (s : ℕ) → s ≡ bucketOf k → Search keyOf slots k k s
 search-start keyOf slots k s e = record { left = λ r p h q. rw e p; whole = λ r p. rw e at p }
 
+pub search-from : (keyOf : ℕ → Key) (slots : List ℕ) (k rest : Key) (s : ℕ) → rest ≡ k → s ≡ bucketOf rest → Search keyOf slots k rest s
+search-from keyOf slots k rest s same e = rw (← same) (search-start keyOf slots rest s e)
+
 module _ (keyOf : ℕ → Key) (slots : List ℕ) (k rest : Key) (s j : ℕ) (ej : j ≡ getD slots s 0) (search : Search keyOf slots k rest s) where
   pub search-found : (i : ℕ) → s < 4096 + 2 * i → keyOf j ≡ k → (j ≡ 0 → ⊥) → Ended keyOf slots k i s
   search-found i h e p = record {
@@ -116,9 +119,6 @@ module _ (keyOf : ℕ → Key) (slots : List ℕ) (k rest : Key) (s j : ℕ) (ej
 module _ (keyOf : ℕ → Key) (slots : List ℕ) (i s j : ℕ) (placed : Placed keyOf slots i) (ej : j ≡ getD slots s 0) (p : j ≡ 0 → ⊥) where
   pub turn-below : j < i
   turn-below = omega (arith, placed .small s)
-
-  pub turn-asks : (size : ℕ) → i ≤ size → (0 < j) × (j ≤ size)
-  turn-asks size h = (omega arith, omega (arith, turn-below))
 
   module _ (k : Key) (next : ℕ) (en : next ≡ under j k) where
     pub turn-in : next < 4096 + 2 * i

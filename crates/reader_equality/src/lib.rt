@@ -1,4 +1,5 @@
 // Equality of trees in constant time: records are numbered so that equal trees share a number.
+pub mod compare;
 pub mod keys;
 pub mod numbers;
 pub mod slots;

@@ -1,7 +1,7 @@
 // The numbers of records' trees: equal trees share a number, the least record that has the tree.
+use crate::compare;
 use crate::slots;
 use crate::tables;
-use reader::trees;
 ghost use mathlib.Core.Path.{_≡_};
 ghost use Prim.Native.Nat.{_+_, _*_, _<_, _≤_};
 ghost use lib.ListN.{length};
@@ -19,21 +19,6 @@ pub fn number_of(obligation: &[u8], second: &[u8], m: usize, table: &[usize], i:
 }
 
 // Do records i and j stand for equal trees?
-pub fn same_number(
-    obligation: &[u8],
-    second: &[u8],
-    m: usize,
-    table: &[usize],
-    i: usize,
-    j: usize,
-) -> bool
-    requires { ⌜ (i < length (now table)) × (j < length (now table)) × Numbered (word (now obligation) (now second) m) (now table) (length (now table)) ⌝ }
-    ensures { λ r. ⌜ r ≡ same (tree (word (now (obligation .entry)) (now (second .entry)) m) i) (tree (word (now (obligation .entry)) (now (second .entry)) m) j) ⌝ }
-{
-    number_of(obligation, second, m, table, i) == number_of(obligation, second, m, table, j)
-}
-
-// The same for any two records: by their numbers where the table has both.
 pub fn same_at(
     obligation: &[u8],
     second: &[u8],
@@ -45,13 +30,7 @@ pub fn same_at(
     requires { ⌜ Numbered (word (now obligation) (now second) m) (now table) (length (now table)) ⌝ }
     ensures { λ r. ⌜ r ≡ same (tree (word (now (obligation .entry)) (now (second .entry)) m) i) (tree (word (now (obligation .entry)) (now (second .entry)) m) j) ⌝ }
 {
-    if table.len() <= i {
-        return trees::same_at(obligation, second, m, i, j);
-    }
-    if table.len() <= j {
-        return trees::same_at(obligation, second, m, i, j);
-    }
-    same_number(obligation, second, m, table, i, j)
+    compare::same_at(obligation, second, m, true, table, table.len(), i, j)
 }
 
 // Fills the table with the numbers of all its records; past the end of the files a record reads as zeros. The slots are scratch: zeros before, and

@@ -1,6 +1,7 @@
 // A search tree of records for each bucket of keys, in one lent table of slots. However many keys share a bucket, a search takes no more turns than
 // the parts of a key have bits: each turn goes left or right by another bit.
 use crate::Key;
+use crate::compare;
 use crate::keys;
 ghost use mathlib.Core.Path.{_≡_};
 ghost use Prim.Native.Nat.{_+_, _*_, _<_, _≤_};
@@ -37,7 +38,8 @@ pub fn slot_under(j: usize, k: Key) -> usize
     4096 + 2 * j + keys::side_of(k)
 }
 
-// The slot at which the search for a key among the records below i ends: one that has a record with that key, or a free one.
+// The slot at which the search for record i among the smaller records ends: one that has an equal record, or a free one. The table has the smaller
+// records, so that a comparison goes no deeper than the parts.
 fn slot_of(
     obligation: &[u8],
     second: &[u8],
@@ -45,17 +47,16 @@ fn slot_of(
     types: bool,
     table: &[usize],
     slots: &[u32],
-    key: Key,
     i: usize,
 ) -> usize
-    requires { ⌜ (i ≤ length (now table)) × (4096 + 2 * i ≤ length (now slots)) × Placed (keyFrom (word (now obligation) (now second) m) types (now table)) (now slots) i ⌝ }
-    ensures { λ r. ⌜ Ended (keyFrom (word (now (obligation .entry)) (now (second .entry)) m) types (now (table .entry))) (now (slots .entry)) key i r ⌝ }
+    requires { ⌜ (0 < i) × (i ≤ length (now table)) × (4096 + 2 * i ≤ length (now slots)) × Placed (keyFrom (word (now obligation) (now second) m) types (now table)) (now slots) i ⌝ }
+    ensures { λ r. ⌜ Ended (keyFrom (word (now (obligation .entry)) (now (second .entry)) m) types (now (table .entry))) (now (slots .entry)) (keyFrom (word (now (obligation .entry)) (now (second .entry)) m) types (now (table .entry)) i) i r ⌝ }
 {
-    let mut slot = keys::bucket_of(key);
-    let mut rest = key;
+    let mut rest = keys::key_at(obligation, second, m, types, table, i);
+    let mut slot = keys::bucket_of(rest);
     let mut j = record_in(slots, slot);
     while j != 0 {
-        if keys::same_key(keys::key_at(obligation, second, m, types, table, j), key) {
+        if compare::same_at(obligation, second, m, types, table, i, j, i) {
             return slot;
         }
         slot = slot_under(j, rest);
@@ -78,8 +79,7 @@ pub fn place(
     requires { ⌜ (0 < i) × (i < 4294967296) × (i ≤ length (now table)) × (4096 + 2 * i ≤ length (now slots)) × Placed (keyFrom (word (now obligation) (now second) m) types (now table)) (now slots) i ⌝ }
     ensures { λ r. ⌜ Put (keyFrom (word (now (obligation .entry)) (now (second .entry)) m) types (now (table .entry))) (now (slots .entry)) i r (now (slots .exit)) ⌝ }
 {
-    let key = keys::key_at(obligation, second, m, types, table, i);
-    let slot = slot_of(obligation, second, m, types, table, slots, key, i);
+    let slot = slot_of(obligation, second, m, types, table, slots, i);
     let j = record_in(slots, slot);
     if j != 0 {
         return j;
