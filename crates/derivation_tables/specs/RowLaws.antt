@@ -39,7 +39,8 @@ row-none k ps st h =
       ne-eqb k 80 (h 80 (omega arith) (omega arith)),
     )
 
-module _ (P : ℕ → Type 0) (p64 : P 64) (p65 : P 65) (p66 : P 66) (p67 : P 67) (p68 : P 68) (p69 : P 69) (p70 : P 70) (p71 : P 71) (p72 : P 72) (p73 : P 73) (p74 : P 74) (p75 : P 75) (p76 : P 76) (p77 : P 77) (p78 : P 78) (p79 : P 79) (p80 : P 80) (other : (k : ℕ) → NoRule k → P k) where
+module _ (P : ℕ → Type 0) (p64 : P 64) (p65 : P 65) (p66 : P 66) (p67 : P 67) (p68 : P 68) (p69 : P 69) (p70 : P 70) (p71 : P 71) (p72 : P 72) (p73 : P 73)
+    (p74 : P 74) (p75 : P 75) (p76 : P 76) (p77 : P 77) (p78 : P 78) (p79 : P 79) (p80 : P 80) (other : (k : ℕ) → NoRule k → P k) where
   from-64 : (j k : ℕ) → k ≡ 64 + j → P k
   from-64 zero k e = rw e p64
   from-64 (suc zero) k e = rw e p65

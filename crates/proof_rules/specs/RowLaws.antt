@@ -37,7 +37,8 @@ row-none k ps h =
       ne-eqb k 46 (h 46 (omega arith) (omega arith)),
     )
 
-module _ (P : ℕ → Type 0) (p32 : P 32) (p33 : P 33) (p34 : P 34) (p35 : P 35) (p36 : P 36) (p37 : P 37) (p38 : P 38) (p39 : P 39) (p40 : P 40) (p41 : P 41) (p42 : P 42) (p43 : P 43) (p44 : P 44) (p45 : P 45) (p46 : P 46) (other : (k : ℕ) → NoRule k → P k) where
+module _ (P : ℕ → Type 0) (p32 : P 32) (p33 : P 33) (p34 : P 34) (p35 : P 35) (p36 : P 36) (p37 : P 37) (p38 : P 38) (p39 : P 39) (p40 : P 40) (p41 : P 41)
+    (p42 : P 42) (p43 : P 43) (p44 : P 44) (p45 : P 45) (p46 : P 46) (other : (k : ℕ) → NoRule k → P k) where
   from-32 : (j k : ℕ) → k ≡ 32 + j → P k
   from-32 zero k e = rw e p32
   from-32 (suc zero) k e = rw e p33

@@ -9,12 +9,16 @@ use Rattle.reader.specs.Kinds.{class, role, kindAt, classAt, roleAt, isR
 use Rattle.reader.specs.Trees.{lower, child, atom, treeStep, tree, kindOf, atomOf, firstOf, secondOf, thirdOf, sameHead, same}
 use Rattle.reader.specs.Chains.{linkedStep, linked, items, itemTrees, parts, premises}
 use Rattle.reader.specs.Weight.{isWeighed, ownWeight, weight}
-use Rattle.reader.specs.Names.{nameOf, nameSpace, bytesOf, recordBytes, trimmed, nameBytes, isLetter, isDigitOrUnderscore, single, accented, characters, name, hasBytes, startsWell, isName, sameName, takenBelow, nameTaken}
+use Rattle.reader.specs.Names.{nameOf, nameSpace, bytesOf, recordBytes, trimmed, nameBytes, isLetter, isDigitOrUnderscore, single, accented, characters}
+use Rattle.reader.specs.Names.{name, hasBytes, startsWell, isName, sameName, takenBelow, nameTaken}
 use Rattle.reader.specs.Variables.{binders, isIndex, replaced, bears, indexBelow, indicesBelow, typeVariableBelow, typesBelow, isClosed, isConstant, occurs, instance}
 use Rattle.reader.specs.Typing.{typeOf, sameAll, pairTyped, productTyped, powersetTyped, equalTyped, memberTyped, forAllTyped, constantTyped, signature, functionTyped, applicationTyped, isTyped}
 use Rattle.reader.specs.Answers.{placed, orAnswer, firstFault}
-use Rattle.reader.specs.Records.{inRange, rangeAt, rangesFit, mayBeZero, wantedClass, itemClass, hasClass, itemsHaveClass, refers, refersAt, referencesFit, nameLengthFits, typesFit, argumentsFit, itemChainsFit, chainsFit, mostWeight, weightFits, nameSpelled, nameIsFree, typingFits, kindFits, wordsFault, contentFault, recordFault}
-use Rattle.reader.specs.Places.{mostRecords, lengthFits, headerFits, countsFit, goalFits, isHypothesis, typeCount, hypothesisFits, hypothesesFit, timesIn, namings, namingFault, obligationReading, secondReading, reading}
+use Rattle.reader.specs.Records.{inRange, rangeAt, rangesFit, mayBeZero, wantedClass, itemClass, hasClass, itemsHaveClass, refers, refersAt}
+use Rattle.reader.specs.Records.{referencesFit, nameLengthFits, typesFit, argumentsFit, itemChainsFit, chainsFit, mostWeight, weightFits, nameSpelled}
+use Rattle.reader.specs.Records.{nameIsFree, typingFits, kindFits, wordsFault, contentFault, recordFault}
+use Rattle.reader.specs.Places.{mostRecords, lengthFits, headerFits, countsFit, goalFits, isHypothesis, typeCount, hypothesisFits, hypothesesFit, timesIn}
+use Rattle.reader.specs.Places.{namings, namingFault, obligationReading, secondReading, reading}
 use Rattle.reader.specs.Members.{member, isFresh, premisesFit}
 use Rattle.reader.specs.Shapes.{hasShape, haveShapes}
 use Rattle.reader.specs.Walk.{andThen, nodeStep, linkStep, walkStep, walks, walkNode, walkLinks}

@@ -15,7 +15,8 @@ use Rattle.reader.specs.Chains.{linked, items, itemTrees}
 use Rattle.reader.specs.TreeLaws.{below, lower-below, child-below, tree-zero, tree-step, linked-zero, linked-step, items-zero, items-step}
 use Rattle.reader.specs.Names.{nameOf, nameSpace, recordBytes, nameBytes, characters, name, hasBytes, isName, sameName, takenBelow, nameTaken}
 use Rattle.reader.specs.Typing.{signature, functionTyped, applicationTyped, isTyped}
-use Rattle.reader.specs.Records.{inRange, rangeAt, mayBeZero, wantedClass, itemClass, hasClass, itemsHaveClass, refers, refersAt, nameLengthFits, typesFit, argumentsFit, itemChainsFit, weightFits, nameSpelled, nameIsFree, typingFits}
+use Rattle.reader.specs.Records.{inRange, rangeAt, mayBeZero, wantedClass, itemClass, hasClass, itemsHaveClass, refers, refersAt, nameLengthFits, typesFit}
+use Rattle.reader.specs.Records.{argumentsFit, itemChainsFit, weightFits, nameSpelled, nameIsFree, typingFits}
 use Rattle.reader_laws.specs.Scan.{every-head}
 use Rattle.reader_laws.specs.Record.{Sound, word-most, name-most}
 

@@ -17,7 +17,8 @@ use Rattle.reader.specs.TreeLaws.{linked-zero, items-zero}
 use Rattle.reader.specs.Variables.{indicesBelow, typesBelow, isClosed}
 use Rattle.reader.specs.Records.{recordFault}
 use Rattle.reader.specs.Answers.{accepted}
-use Rattle.reader.specs.Places.{mostRecords, lengthFits, headerFits, hypothesisChain, negatedGoal, rootOf, countOf, countsFit, goalFits, isHypothesis, typeCount, hypothesisFits, hypothesesFit, namings, namingFault, obligationReading, secondReading, reading}
+use Rattle.reader.specs.Places.{mostRecords, lengthFits, headerFits, hypothesisChain, negatedGoal, rootOf, countOf, countsFit, goalFits, isHypothesis}
+use Rattle.reader.specs.Places.{typeCount, hypothesisFits, hypothesesFit, namings, namingFault, obligationReading, secondReading, reading}
 use Rattle.reader_laws.specs.Scan.{both-parts, both-join, demand-parts, demand-join, orAnswer-parts, orAnswer-join, placed-parts, placed-pass, scan-parts, scan-join, when-different, when-true}
 use Rattle.reader_laws.specs.Record.{Sound, record-parts, record-join}
 

@@ -13,7 +13,8 @@ use Rattle.reader.specs.KindLaws.{rule-role}
 use Rattle.reader.specs.TreeLaws.{tree-zero, tree-step}
 use Rattle.reader.specs.Records.{mayBeZero, wantedClass, itemClass, hasClass, itemsHaveClass, refersAt}
 use Rattle.reader_laws.specs.Scan.{when-less, when-not-less, when-true, when-false}
-use Rattle.reader_laws.specs.Record.{Sound, role-known, reference-given, reference-below, reference-class, reference-items, reference-lower, class-is, word-three, word-four, word-index, word-count}
+use Rattle.reader_laws.specs.Record.{Sound, role-known, reference-given, reference-below, reference-class, reference-items, reference-lower, class-is}
+use Rattle.reader_laws.specs.Record.{word-three, word-four, word-index, word-count}
 
 -- a reference that is 0 names no record
 pub lower-zero : (rd : Reader) (i w : ℕ) → rd i w ≡ 0 → lower rd i w ≡ 0

@@ -15,7 +15,9 @@ use Rattle.reader.specs.Chains.{linked, items}
 use Rattle.reader.specs.Weight.{isWeighed, weight}
 use Rattle.reader.specs.Names.{nameOf, nameSpace, name, isName, sameName, takenBelow, nameTaken}
 use Rattle.reader.specs.Typing.{isTyped}
-use Rattle.reader.specs.Records.{inRange, rangeAt, rangesFit, mayBeZero, wantedClass, itemClass, hasClass, itemsHaveClass, refers, refersAt, referencesFit, nameLengthFits, typesFit, argumentsFit, itemChainsFit, chainsFit, mostWeight, weightFits, nameSpelled, nameIsFree, typingFits, kindFits, wordsFault, contentFault, recordFault}
+use Rattle.reader.specs.Records.{inRange, rangeAt, rangesFit, mayBeZero, wantedClass, itemClass, hasClass, itemsHaveClass, refers, refersAt, referencesFit}
+use Rattle.reader.specs.Records.{nameLengthFits, typesFit, argumentsFit, itemChainsFit, chainsFit, mostWeight, weightFits, nameSpelled, nameIsFree, typingFits}
+use Rattle.reader.specs.Records.{kindFits, wordsFault, contentFault, recordFault}
 use Rattle.reader_laws.specs.Scan.{both-parts, both-join, demand-parts, demand-join, orElse-parts, orElse-join, when-equal, when-different, when-less, when-not-less, when-true, between-parts}
 
 -- record i of a file of kind `mode` has no fault

@@ -15,7 +15,8 @@ use Rattle.reader.specs.Kinds.{role, classAt, roleAt}
 use Rattle.reader.specs.Chains.{linked, items}
 use Rattle.reader.specs.TreeLaws.{items-zero, items-step}
 use Rattle.reader.specs.ChainLaws.{linked-length, linked-none}
-use Rattle.reader.specs.Records.{inRange, rangeAt, Reference, anyRecord, references, mayBeZero, wantedClass, itemClass, hasClass, itemsHaveClass, refers, refersAt, typesFit, argumentsFit, itemChainsFit}
+use Rattle.reader.specs.Records.{inRange, rangeAt, Reference, anyRecord, references, mayBeZero, wantedClass, itemClass, hasClass, itemsHaveClass, refers}
+use Rattle.reader.specs.Records.{refersAt, typesFit, argumentsFit, itemChainsFit}
 
 -- The columns of the table of references, at its entries and past its end.
 abbrev bit : Bool → ℕ

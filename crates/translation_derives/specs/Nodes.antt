@@ -20,7 +20,8 @@ use Rattle.derivation_rules.specs.Erase.{⌊_⌋, bareTree, ∀ᵇ, constantᵇ
 use Rattle.derivation_meaning.specs.Formulas.{Formula, OfLanguage}
 use Rattle.derivation_meaning.specs.Derives.{Derives}
 use Rattle.derivation_meaning.specs.Instances.{instance-formula}
-use Rattle.derivation_meaning.specs.EraseLaws.{erase-false, erase-true, erase-and, erase-implies, erase-not, erase-all, erase-equal, erase-constant, erase-for-all-types, indices-erase, occurs-erase, replaced-erase, formula-erase, term-erase}
+use Rattle.derivation_meaning.specs.EraseLaws.{erase-false, erase-true, erase-and, erase-implies, erase-not, erase-all, erase-equal, erase-constant}
+use Rattle.derivation_meaning.specs.EraseLaws.{erase-for-all-types, indices-erase, occurs-erase, replaced-erase, formula-erase, term-erase}
 use Rattle.reader_meaning.specs.Signs.{constantᵗ, forTypesᵗ}
 use Rattle.proof_meaning.specs.Proves.{ProofNode, Fits, Proves}
 use Rattle.translation_rules.specs.Templates.{template}
@@ -32,7 +33,9 @@ use Rattle.translation_blocks.specs.Build.{Room}
 use Rattle.translation_blocks.specs.Indices.{under-not}
 use Rattle.translation_blocks.specs.Blocks.{block32, block33, block34, block35, block36, block37, block38, block39, block40, block41}
 use Rattle.translation_blocks.specs.Quantified.{block42, block43, block44, block45, block46}
-use Rattle.translation_derives.specs.Wholes.{Whole, whole-of, under-not as not-whole, left-of-and, right-of-and, left-formula, right-formula, implied-formula, under-types, right-of-implies, left-of-equal, right-of-equal, whole-bare, part-tree, part-within}
+use Rattle.translation_derives.specs.Wholes.{Whole, whole-of, under-not as not-whole, left-of-and, right-of-and, left-formula, right-formula}
+use Rattle.translation_derives.specs.Wholes.{implied-formula, under-types, right-of-implies, left-of-equal, right-of-equal, whole-bare, part-tree}
+use Rattle.translation_derives.specs.Wholes.{part-within}
 use Rattle.translation_derives.specs.Members.{member-bare, one-more, two-more, fresh-bare}
 
 -- the first and the second of a node's premises are named by it

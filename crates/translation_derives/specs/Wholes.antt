@@ -12,7 +12,8 @@ use Rattle.reader.specs.Chains.{parts}
 use Rattle.reader.specs.TreeLaws.{tree-zero}
 use Rattle.reader.specs.Notions.{IsFormula}
 use Rattle.reader_laws.specs.Record.{Sound}
-use Rattle.reader_laws.specs.Parts.{Part, not-tree, not-first, and-tree, and-first, and-second, implies-tree, implies-second, equal-tree, equal-first, equal-second, for-all-types-tree, for-all-types-second}
+use Rattle.reader_laws.specs.Parts.{Part, not-tree, not-first, and-tree, and-first, and-second, implies-tree, implies-second, equal-tree, equal-first}
+use Rattle.reader_laws.specs.Parts.{equal-second, for-all-types-tree, for-all-types-second}
 use Rattle.reader_laws.specs.Classes.{class-of-kind}
 use Rattle.reader_laws.specs.Agree.{Within, within-head, within-tail, lower-most, items-within}
 use Rattle.derivation_rules.specs.Erase.{⌊_⌋, bareTree}

@@ -42,7 +42,20 @@ bears-child-below t =
     and 4 bears-child-kinds.ps (falls 4 bears-child-kinds.ps _<_ μ-bears-child t) bears-child.Pre
 
 abbrev bears-at-calls : ℕ → bears-at-lts.Claims
-bears-at-calls t = (indices-below-reads.Asked, indices-below-reads.Learnt, is-index-reads.Asked, is-index-reads.Learnt, child-at-reads.Asked, child-at-reads.Learnt, same-at-reads.Asked, same-at-reads.Learnt, bears-child-below t, bears-child.Post, deeper-at-reads.Asked, deeper-at-reads.Learnt)
+bears-at-calls t = (
+  indices-below-reads.Asked,
+  indices-below-reads.Learnt,
+  is-index-reads.Asked,
+  is-index-reads.Learnt,
+  child-at-reads.Asked,
+  child-at-reads.Learnt,
+  same-at-reads.Asked,
+  same-at-reads.Learnt,
+  bears-child-below t,
+  bears-child.Post,
+  deeper-at-reads.Asked,
+  deeper-at-reads.Learnt,
+)
 
 abbrev bears-child-calls : ℕ → bears-child-lts.Claims
 bears-child-calls t = (child-at-reads.Asked, child-at-reads.Learnt, bears-at-below t, bears-at.Post)
@@ -63,19 +76,32 @@ pub +bears-at+bears-child-spec : {M : Type 1} → statement M
     -- returns-2: same-at; 1 child-at; 2 if2; 3 is-index; 4 if1; 5 indices-below; 10 args
     (λ c. search place-index)
     -- bears-child-requires: if2; 1 is-index; 2 if1; 3 indices-below; 8 args
-    (λ c κs. let p = c .before .before .before .before .before .before .before .before .pre in let o = open-parts _ _ _ _ t _ (c .before .before .before .indices-below .ensures) (c .before .before .if1 .left) (p .0) (p .1 .0) (omega arith) in (o .0, (o .1, o .2, p .1 .1, p .1 .2)))
+    (λ c κs. let p = c .before .before .before .before .before .before .before .before .pre in let o = open-parts _ _ _ _ t _ (c .before .before .before .indices-below .ensures)
+    (c .before .before .if1 .left) (p .0) (p .1 .0) (omega arith) in (o .0, (o .1, o .2, p .1 .1, p .1 .2)))
     -- returns-3: if3; 1 bears-child; 2 if2; 3 is-index; 4 if1; 5 indices-below; 10 args
     (λ c. search (places-more, boths))
     -- deeper-at-requires: if3; 1 bears-child; 2 if2; 3 is-index; 4 if1; 5 indices-below; 10 args
-    (λ c κs. let p = c .before .before .before .before .before .before .before .before .before .before .pre in omega (arith, p .1 .0, open-positive _ _ _ _ (c .before .before .before .before .before .indices-below .ensures) (c .before .before .before .before .if1 .left)))
+    (λ c κs. let p = c .before .before .before .before .before .before .before .before .before .before .pre in omega
+    (arith, p .1 .0, open-positive _ _ _ _ (c .before .before .before .before .before .indices-below .ensures) (c .before .before .before .before .if1 .left)))
     -- bears-child-requires-2: deeper-at; 1 if3; 2 bears-child; 3 if2; 4 is-index; 5 if1; 6 indices-below; 11 args
-    (λ c κs. let p = c .before .before .before .before .before .before .before .before .before .before .before .pre in let o = open-parts _ _ _ _ t _ (c .before .before .before .before .before .before .indices-below .ensures) (c .before .before .before .before .before .if1 .left) (p .0) (p .1 .0) (c .deeper-at .ensures .1) in (o .0, (o .1, o .2, p .1 .1, p .1 .2)))
+    (λ c κs. let p = c .before .before .before .before .before .before .before .before .before .before .before .pre in let o = open-parts _ _ _ _ t _
+    (c .before .before .before .before .before .before .indices-below .ensures) (c .before .before .before .before .before .if1 .left) (p .0) (p .1 .0) (c .deeper-at .ensures .1) in
+    (o .0, (o .1, o .2, p .1 .1, p .1 .2)))
     -- returns-4: if4; 1 bears-child2; 2 deeper-at; 3 if3; 4 bears-child; 5 if2; 6 is-index; 7 if1; 8 indices-below; 13 args
-    (λ c. places-more _ _ _ _ _ (c .before .before .before .before .before .before .before .before .indices-below .ensures) (c .before .before .before .before .before .before .before .if1 .left) _ (c .before .before .before .before .before .before .is-index .ensures) (c .before .before .before .before .before .if2 .left) _ (both-go _ _ _ _ (c .before .before .before .before .bears-child .ensures) (c .before .before .before .if3 .left) (both-stop _ _ _ (bears-deeper _ _ _ _ _ _ _ (c .before .before .deeper-at .ensures .0) (c .before .bears-child2 .ensures)) (c .if4 .taken))))
+    (λ c. places-more _ _ _ _ _ (c .before .before .before .before .before .before .before .before .indices-below .ensures) (c .before .before .before .before .before .before .before .if1 .left) _
+    (c .before .before .before .before .before .before .is-index .ensures) (c .before .before .before .before .before .if2 .left) _
+    (both-go _ _ _ _ (c .before .before .before .before .bears-child .ensures) (c .before .before .before .if3 .left)
+    (both-stop _ _ _ (bears-deeper _ _ _ _ _ _ _ (c .before .before .deeper-at .ensures .0) (c .before .bears-child2 .ensures)) (c .if4 .taken))))
     -- bears-child-requires-3: if4; 1 bears-child2; 2 deeper-at; 3 if3; 4 bears-child; 5 if2; 6 is-index; 7 if1; 8 indices-below; 13 args
-    (λ c κs. let p = c .before .before .before .before .before .before .before .before .before .before .before .before .before .pre in let o = open-parts _ _ _ _ t _ (c .before .before .before .before .before .before .before .before .indices-below .ensures) (c .before .before .before .before .before .before .before .if1 .left) (p .0) (p .1 .0) (omega arith) in (o .0, (o .1, o .2, p .1 .1, p .1 .2)))
+    (λ c κs. let p = c .before .before .before .before .before .before .before .before .before .before .before .before .before .pre in let o = open-parts _ _ _ _ t _
+    (c .before .before .before .before .before .before .before .before .indices-below .ensures) (c .before .before .before .before .before .before .before .if1 .left) (p .0) (p .1 .0)
+    (omega arith) in (o .0, (o .1, o .2, p .1 .1, p .1 .2)))
     -- returns-5: bears-child3; 1 if4; 2 bears-child2; 3 deeper-at; 4 if3; 5 bears-child; 6 if2; 7 is-index; 8 if1; 9 indices-below; 14 args
-    (λ c. places-more _ _ _ _ _ (c .before .before .before .before .before .before .before .before .before .indices-below .ensures) (c .before .before .before .before .before .before .before .before .if1 .left) _ (c .before .before .before .before .before .before .before .is-index .ensures) (c .before .before .before .before .before .before .if2 .left) _ (both-go _ _ _ _ (c .before .before .before .before .before .bears-child .ensures) (c .before .before .before .before .if3 .left) (both-go _ _ _ _ (bears-deeper _ _ _ _ _ _ _ (c .before .before .before .deeper-at .ensures .0) (c .before .before .bears-child2 .ensures)) (c .before .if4 .left) (c .bears-child3 .ensures)))))
+    (λ c. places-more _ _ _ _ _ (c .before .before .before .before .before .before .before .before .before .indices-below .ensures)
+    (c .before .before .before .before .before .before .before .before .if1 .left) _ (c .before .before .before .before .before .before .before .is-index .ensures)
+    (c .before .before .before .before .before .before .if2 .left) _ (both-go _ _ _ _ (c .before .before .before .before .before .bears-child .ensures)
+    (c .before .before .before .before .if3 .left) (both-go _ _ _ _ (bears-deeper _ _ _ _ _ _ _ (c .before .before .before .deeper-at .ensures .0) (c .before .before .bears-child2 .ensures))
+    (c .before .if4 .left) (c .bears-child3 .ensures)))))
     (λ t. bears-child-lts.spec (bears-child-calls t) (bears-child-at t) bears-child.Post
     -- child-at-requires: 4 args
     (λ c κs. search needs)

@@ -41,7 +41,20 @@ fits-child-below t =
     and 4 fits-child-kinds.ps (falls 4 fits-child-kinds.ps _<_ μ-fits-child t) fits-child.Pre
 
 abbrev fits-at-calls : ℕ → fits-at-lts.Claims
-fits-at-calls t = (indices-below-reads.Asked, indices-below-reads.Learnt, same-at-reads.Asked, same-at-reads.Learnt, is-index-reads.Asked, is-index-reads.Learnt, same-head-reads.Asked, same-head-reads.Learnt, fits-child-below t, fits-child.Post, deeper-at-reads.Asked, deeper-at-reads.Learnt)
+fits-at-calls t = (
+  indices-below-reads.Asked,
+  indices-below-reads.Learnt,
+  same-at-reads.Asked,
+  same-at-reads.Learnt,
+  is-index-reads.Asked,
+  is-index-reads.Learnt,
+  same-head-reads.Asked,
+  same-head-reads.Learnt,
+  fits-child-below t,
+  fits-child.Post,
+  deeper-at-reads.Asked,
+  deeper-at-reads.Learnt,
+)
 
 abbrev fits-child-calls : ℕ → fits-child-lts.Claims
 fits-child-calls t = (child-at-reads.Asked, child-at-reads.Learnt, fits-at-below t, fits-at.Post)
@@ -68,19 +81,41 @@ pub +fits-at+fits-child-spec : {M : Type 1} → statement M
     -- returns-4: if4; 1 same-head; 2 if3; 3 if2; 4 is-index; 5 if1; 6 indices-below; 11 args
     (λ c. search (fits-more, boths))
     -- fits-child-requires: if4; 1 same-head; 2 if3; 3 if2; 4 is-index; 5 if1; 6 indices-below; 11 args
-    (λ c κs. let p = c .before .before .before .before .before .before .before .before .before .before .before .pre in let o = open-parts _ _ _ _ t _ (c .before .before .before .before .before .before .indices-below .ensures) (c .before .before .before .before .before .if1 .left) (p .0) (p .1 .0) (omega arith) in (o .0, (o .1, o .2, p .1 .1, p .1 .2)))
+    (λ c κs. let p = c .before .before .before .before .before .before .before .before .before .before .before .pre in let o = open-parts _ _ _ _ t _
+    (c .before .before .before .before .before .before .indices-below .ensures) (c .before .before .before .before .before .if1 .left) (p .0) (p .1 .0) (omega arith) in
+    (o .0, (o .1, o .2, p .1 .1, p .1 .2)))
     -- returns-5: if5; 1 fits-child; 2 if4; 3 same-head; 4 if3; 5 if2; 6 is-index; 7 if1; 8 indices-below; 13 args
     (λ c. search (fits-more, boths))
     -- deeper-at-requires: if5; 1 fits-child; 2 if4; 3 same-head; 4 if3; 5 if2; 6 is-index; 7 if1; 8 indices-below; 13 args
-    (λ c κs. let p = c .before .before .before .before .before .before .before .before .before .before .before .before .before .pre in omega (arith, p .1 .0, open-positive _ _ _ _ (c .before .before .before .before .before .before .before .before .indices-below .ensures) (c .before .before .before .before .before .before .before .if1 .left)))
+    (λ c κs. let p = c .before .before .before .before .before .before .before .before .before .before .before .before .before .pre in omega (
+      arith,
+      p .1 .0,
+      open-positive _ _ _ _ (c .before .before .before .before .before .before .before .before .indices-below .ensures)
+          (c .before .before .before .before .before .before .before .if1 .left),
+    ))
     -- fits-child-requires-2: deeper-at; 1 if5; 2 fits-child; 3 if4; 4 same-head; 5 if3; 6 if2; 7 is-index; 8 if1; 9 indices-below; 14 args
-    (λ c κs. let p = c .before .before .before .before .before .before .before .before .before .before .before .before .before .before .pre in let o = open-parts _ _ _ _ t _ (c .before .before .before .before .before .before .before .before .before .indices-below .ensures) (c .before .before .before .before .before .before .before .before .if1 .left) (p .0) (p .1 .0) (c .deeper-at .ensures .1) in (o .0, (o .1, o .2, p .1 .1, p .1 .2)))
+    (λ c κs. let p = c .before .before .before .before .before .before .before .before .before .before .before .before .before .before .pre in let o = open-parts _ _ _ _ t _
+    (c .before .before .before .before .before .before .before .before .before .indices-below .ensures) (c .before .before .before .before .before .before .before .before .if1 .left) (p .0)
+    (p .1 .0) (c .deeper-at .ensures .1) in (o .0, (o .1, o .2, p .1 .1, p .1 .2)))
     -- returns-6: if6; 1 fits-child2; 2 deeper-at; 3 if5; 4 fits-child; 5 if4; 6 same-head; 7 if3; 8 if2; 9 is-index; 10 if1; 11 indices-below; 16 args
-    (λ c. fits-more _ _ _ _ _ _ (c .before .before .before .before .before .before .before .before .before .before .before .indices-below .ensures) (c .before .before .before .before .before .before .before .before .before .before .if1 .left) _ (c .before .before .before .before .before .before .before .before .before .is-index .ensures) (c .before .before .before .before .before .before .before .before .if2 .left) (c .before .before .before .before .before .before .before .if3 .left) _ (both-go _ _ _ _ (c .before .before .before .before .before .before .same-head .ensures) (c .before .before .before .before .before .if4 .left) (both-go _ _ _ _ (c .before .before .before .before .fits-child .ensures) (c .before .before .before .if5 .left) (both-stop _ _ _ (fits-deeper _ _ _ _ _ _ _ _ (c .before .before .deeper-at .ensures .0) (c .before .fits-child2 .ensures)) (c .if6 .taken)))))
+    (λ c. fits-more _ _ _ _ _ _ (c .before .before .before .before .before .before .before .before .before .before .before .indices-below .ensures)
+    (c .before .before .before .before .before .before .before .before .before .before .if1 .left) _ (c .before .before .before .before .before .before .before .before .before .is-index .ensures)
+    (c .before .before .before .before .before .before .before .before .if2 .left) (c .before .before .before .before .before .before .before .if3 .left) _
+    (both-go _ _ _ _ (c .before .before .before .before .before .before .same-head .ensures) (c .before .before .before .before .before .if4 .left)
+    (both-go _ _ _ _ (c .before .before .before .before .fits-child .ensures) (c .before .before .before .if5 .left)
+    (both-stop _ _ _ (fits-deeper _ _ _ _ _ _ _ _ (c .before .before .deeper-at .ensures .0) (c .before .fits-child2 .ensures)) (c .if6 .taken)))))
     -- fits-child-requires-3: if6; 1 fits-child2; 2 deeper-at; 3 if5; 4 fits-child; 5 if4; 6 same-head; 7 if3; 8 if2; 9 is-index; 10 if1; 11 indices-below; 16 args
-    (λ c κs. let p = c .before .before .before .before .before .before .before .before .before .before .before .before .before .before .before .before .pre in let o = open-parts _ _ _ _ t _ (c .before .before .before .before .before .before .before .before .before .before .before .indices-below .ensures) (c .before .before .before .before .before .before .before .before .before .before .if1 .left) (p .0) (p .1 .0) (omega arith) in (o .0, (o .1, o .2, p .1 .1, p .1 .2)))
+    (λ c κs. let p = c .before .before .before .before .before .before .before .before .before .before .before .before .before .before .before .before .pre in let o = open-parts _ _ _ _ t _
+    (c .before .before .before .before .before .before .before .before .before .before .before .indices-below .ensures)
+    (c .before .before .before .before .before .before .before .before .before .before .if1 .left) (p .0) (p .1 .0) (omega arith) in (o .0, (o .1, o .2, p .1 .1, p .1 .2)))
     -- returns-7: fits-child3; 1 if6; 2 fits-child2; 3 deeper-at; 4 if5; 5 fits-child; 6 if4; 7 same-head; 8 if3; 9 if2; 10 is-index; 11 if1; 12 indices-below; 17 args
-    (λ c. fits-more _ _ _ _ _ _ (c .before .before .before .before .before .before .before .before .before .before .before .before .indices-below .ensures) (c .before .before .before .before .before .before .before .before .before .before .before .if1 .left) _ (c .before .before .before .before .before .before .before .before .before .before .is-index .ensures) (c .before .before .before .before .before .before .before .before .before .if2 .left) (c .before .before .before .before .before .before .before .before .if3 .left) _ (both-go _ _ _ _ (c .before .before .before .before .before .before .before .same-head .ensures) (c .before .before .before .before .before .before .if4 .left) (both-go _ _ _ _ (c .before .before .before .before .before .fits-child .ensures) (c .before .before .before .before .if5 .left) (both-go _ _ _ _ (fits-deeper _ _ _ _ _ _ _ _ (c .before .before .before .deeper-at .ensures .0) (c .before .before .fits-child2 .ensures)) (c .before .if6 .left) (c .fits-child3 .ensures))))))
+    (λ c. fits-more _ _ _ _ _ _ (c .before .before .before .before .before .before .before .before .before .before .before .before .indices-below .ensures)
+    (c .before .before .before .before .before .before .before .before .before .before .before .if1 .left) _
+    (c .before .before .before .before .before .before .before .before .before .before .is-index .ensures) (c .before .before .before .before .before .before .before .before .before .if2 .left)
+    (c .before .before .before .before .before .before .before .before .if3 .left) _ (both-go _ _ _ _ (c .before .before .before .before .before .before .before .same-head .ensures)
+    (c .before .before .before .before .before .before .if4 .left) (both-go _ _ _ _ (c .before .before .before .before .before .fits-child .ensures) (c .before .before .before .before .if5 .left)
+    (both-go _ _ _ _ (fits-deeper _ _ _ _ _ _ _ _ (c .before .before .before .deeper-at .ensures .0) (c .before .before .fits-child2 .ensures)) (c .before .if6 .left)
+    (c .fits-child3 .ensures))))))
     (λ t. fits-child-lts.spec (fits-child-calls t) (fits-child-at t) fits-child.Post
     -- child-at-requires: 4 args
     (λ c κs. search needs)

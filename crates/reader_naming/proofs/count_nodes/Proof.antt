@@ -28,7 +28,13 @@ count-nodes-spec = tie.close (tie.spec
     -- loop-less: 1 passed; 3 named; 4 count-node; 5 count-node-arg2; 6 count-node-arg; 7 loop-test; 8 loop; 13 args
     (λ c. omega arith)
     -- loop-again: 1 passed; 3 named; 4 count-node; 5 count-node-arg2; 6 count-node-arg; 7 loop-test; 8 loop; 13 args
-    (λ c. (total-more _ _ _ _ _ _ (c .before .before .before .before .before .before .before .before .loop .inv .0) (c .before .before .before .before .count-node .ensures .1), c .before .before .before .before .count-node .ensures .0, search needs, search needs, omega arith))
+    (λ c. (
+      total-more _ _ _ _ _ _ (c .before .before .before .before .before .before .before .before .loop .inv .0) (c .before .before .before .before .count-node .ensures .1),
+      c .before .before .before .before .count-node .ensures .0,
+      search needs,
+      search needs,
+      omega arith,
+    ))
     -- same-length: loop-test; 1 loop; 6 args
     (λ c. search needs)
     -- same-length-2: loop-test; 1 loop; 6 args

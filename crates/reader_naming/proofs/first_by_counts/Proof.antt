@@ -20,4 +20,6 @@ first-by-counts-spec = tie.close (tie.spec
     -- same-length-2: first-miscounted; 1 first-miscounted-arg; 3 passed; 5 named2; 6 count-nodes; 7 count-nodes-arg2; 8 count-nodes-arg; 10 named; 11 count-root; 12 word-of; 13 count-root-arg; 18 args
     (λ c. search needs)
     -- returns: first-miscounted; 1 first-miscounted-arg; 3 passed; 5 named2; 6 count-nodes; 7 count-nodes-arg2; 8 count-nodes-arg; 10 named; 11 count-root; 12 word-of; 13 count-root-arg; 18 args
-    (λ c. unnamed-is _ _ _ _ _ _ _ _ _ (c .before .before .before .before .before .before .before .before .before .before .before .before .word-of .ensures) (c .before .before .before .before .before .before .before .before .before .before .before .count-root .ensures) (c .before .before .before .before .before .before .count-nodes .ensures) (search needs) (search needs) (c .first-miscounted .ensures)))
+    (λ c. unnamed-is _ _ _ _ _ _ _ _ _ (c .before .before .before .before .before .before .before .before .before .before .before .before .word-of .ensures)
+    (c .before .before .before .before .before .before .before .before .before .before .before .count-root .ensures) (c .before .before .before .before .before .before .count-nodes .ensures)
+    (search needs) (search needs) (c .first-miscounted .ensures)))

@@ -34,7 +34,10 @@ pass-chain-spec = tie.close (tie.spec
     -- loop-less: lower-at; 2 passed; 4 named; 5 run-over; 6 run-over-arg2; 7 run-over-arg; 8 if1; 9 entry; 10 entry-arg; 11 loop-test; 12 loop; 17 args
     (λ c. search next-falls)
     -- loop-again: lower-at; 2 passed; 4 named; 5 run-over; 6 run-over-arg2; 7 run-over-arg; 8 if1; 9 entry; 10 entry-arg; 11 loop-test; 12 loop; 17 args
-    (λ c. turn-next _ _ _ _ _ _ _ _ _ _ _ _ (c .before .before .before .before .before .before .before .before .before .before .before .loop-test .taken) (c .before .before .before .before .before .before .before .before .before .entry .ensures) (c .before .before .before .before .before .before .before .before .if1 .left) (c .before .before .before .before .before .before .before .before .before .before .before .before .loop .inv) (c .lower-at .ensures) (c .before .before .before .before .before .run-over .ensures))
+    (λ c. turn-next _ _ _ _ _ _ _ _ _ _ _ _ (c .before .before .before .before .before .before .before .before .before .before .before .loop-test .taken)
+    (c .before .before .before .before .before .before .before .before .before .entry .ensures) (c .before .before .before .before .before .before .before .before .if1 .left)
+    (c .before .before .before .before .before .before .before .before .before .before .before .before .loop .inv) (c .lower-at .ensures)
+    (c .before .before .before .before .before .run-over .ensures))
     -- same-length-3: loop-test; 1 loop; 6 args
     (λ c. search needs)
     -- same-length-4: loop-test; 1 loop; 6 args

@@ -21,4 +21,7 @@ store-start-spec = tie.close (tie.spec
     -- same-length: 1 frames; 2 write; 3 write-arg; 4 chain-length; 5 key-of; 6 child-at; 7 word-at2; 8 word-at; 13 args
     (λ c. search needs)
     -- returns: 1 frames; 2 write; 3 write-arg; 4 chain-length; 5 key-of; 6 child-at; 7 word-at2; 8 word-at; 13 args
-    (λ c. root-written _ _ _ _ _ _ _ _ _ (c .before .before .before .before .before .before .before .before .before .before .before .before .before .pre) (c .before .before .before .before .before .before .before .before .word-at .ensures) (c .before .before .before .before .before .before .before .word-at2 .ensures) (c .before .before .before .before .before .before .child-at .ensures) (c .before .before .before .before .before .key-of .ensures) (c .before .before .before .before .chain-length .ensures) (c .before .before .write .kept .0) (c .before .before .write .ensures)))
+    (λ c. root-written _ _ _ _ _ _ _ _ _ (c .before .before .before .before .before .before .before .before .before .before .before .before .before .pre)
+    (c .before .before .before .before .before .before .before .before .word-at .ensures) (c .before .before .before .before .before .before .before .word-at2 .ensures)
+    (c .before .before .before .before .before .before .child-at .ensures) (c .before .before .before .before .before .key-of .ensures) (c .before .before .before .before .chain-length .ensures)
+    (c .before .before .write .kept .0) (c .before .before .write .ensures)))

@@ -23,7 +23,14 @@ reach-all-spec = tie.close (tie.spec
     -- slice-write-reaches: if1; 4 args
     (λ c. search needs)
     -- loop-holds: if1; 4 args
-    (λ c. let t = c .before .before .before .before .args .reaches .now in (omega arith, refl, indexed-as _ _ _ (length-set t 0 0) (c .before .before .before .before .pre), reached-one _ _ (getD-set-same t 0 0 0 (omega arith)), omega (arith, length-set t 0 0)))
+    (λ c. let t = c .before .before .before .before .args .reaches .now in (
+      omega arith,
+      refl,
+      indexed-as _ _ _ (length-set t 0 0) (c .before .before .before .before .pre),
+      reached-one _ _
+          (getD-set-same t 0 0 0 (omega arith)),
+      omega (arith, length-set t 0 0),
+    ))
     -- reach-of-requires: reach-of-arg; 1 loop-test; 2 loop; 3 if1; 7 args
     (λ c κs. let l = c .before .before .loop .inv in (l .0, omega arith, l .3))
     -- cast-reaches: reach-of; 1 reach-of-arg; 2 loop-test; 3 loop; 4 if1; 8 args
@@ -35,7 +42,8 @@ reach-all-spec = tie.close (tie.spec
     -- loop-less: reach-of; 1 reach-of-arg; 2 loop-test; 3 loop; 4 if1; 8 args
     (λ c. omega arith)
     -- loop-again: reach-of; 1 reach-of-arg; 2 loop-test; 3 loop; 4 if1; 8 args
-    (λ c. let l = c .before .before .before .loop in let long : length (set (l .reaches) (l .i) (c .reach-of .result)) ≡ length (l .reaches) = length-set (l .reaches) (l .i) (c .reach-of .result) in (omega arith, search needs, indexed-as _ _ _ long (l .inv .2), reached-more _ (l .reaches) (l .i) _ (omega arith) (l .inv .3) (c .reach-of .ensures), omega arith))
+    (λ c. let l = c .before .before .before .loop in let long : length (set (l .reaches) (l .i) (c .reach-of .result)) ≡ length (l .reaches) = length-set (l .reaches) (l .i) (c .reach-of .result) in
+    (omega arith, search needs, indexed-as _ _ _ long (l .inv .2), reached-more _ (l .reaches) (l .i) _ (omega arith) (l .inv .3) (c .reach-of .ensures), omega arith))
     -- same-length: loop-test; 1 loop; 2 if1; 6 args
     (λ c. c .before .loop .inv .1 ∙ length-set (c .before .before .before .before .before .before .args .reaches .now) 0 0)
     -- returns-2: loop-test; 1 loop; 2 if1; 6 args

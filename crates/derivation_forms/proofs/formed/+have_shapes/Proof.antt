@@ -47,6 +47,10 @@ pub +have-shapes-spec : {M : Type 1} → statement M
     -- returns-3: if3; 1 has-shape; 2 key-of; 3 lower-at2; 4 lower-at; 5 if2; 6 if1; 10 args
     (λ c. search (shapes-more, boths, key-shape))
     -- have-shapes-requires: if3; 1 has-shape; 2 key-of; 3 lower-at2; 4 lower-at; 5 if2; 6 if1; 10 args
-    (λ c κs. (next-falls _ _ _ t (c .before .before .before .before .before .before .before .before .before .before .pre .0) (c .before .before .before .before .before .before .if1 .left) (c .before .before .before .lower-at2 .ensures), (search needs, search rest-in)))
+    (λ c κs. (
+      next-falls _ _ _ t (c .before .before .before .before .before .before .before .before .before .before .pre .0) (c .before .before .before .before .before .before .if1 .left)
+          (c .before .before .before .lower-at2 .ensures),
+      (search needs, search rest-in),
+    ))
     -- returns-4: have-shapes; 1 if3; 2 has-shape; 3 key-of; 4 lower-at2; 5 lower-at; 6 if2; 7 if1; 11 args
     (λ c. search (shapes-more, boths, key-shape)))

@@ -27,7 +27,11 @@ chain-lacks-spec = tie.close (tie.spec
     -- key-of-requires: lower-at; 1 loop-test; 2 loop; 7 args
     (λ c κs. (search needs, search item-in))
     -- key-lacks-requires: key-of; 1 lower-at; 2 loop-test; 3 loop; 8 args
-    (λ c κs. (search needs, item-narrow _ _ _ _ _ _ (c .before .before .before .before .before .before .before .before .pre .0) (c .key-of .ensures) (item-falls _ _ _ (c .before .before .loop-test .taken) (c .before .lower-at .ensures)) (c .before .before .before .loop .inv .1) (c .before .before .before .loop .inv .0)))
+    (λ c κs. (
+      search needs,
+      item-narrow _ _ _ _ _ _ (c .before .before .before .before .before .before .before .before .pre .0) (c .key-of .ensures)
+          (item-falls _ _ _ (c .before .before .loop-test .taken) (c .before .lower-at .ensures)) (c .before .before .before .loop .inv .1) (c .before .before .before .loop .inv .0),
+    ))
     -- returns: if1; 1 key-lacks; 2 key-of; 3 lower-at; 4 loop-test; 5 loop; 10 args
     (λ c. search (chain-stop, lacks-tree))
     -- lower-at-requires-2: if1; 1 key-lacks; 2 key-of; 3 lower-at; 4 loop-test; 5 loop; 10 args

@@ -33,7 +33,13 @@ fill-added-spec = tie.close (tie.spec
     -- loop-less: 1 listed; 2 fill-entry; 3 fill-entry-arg; 4 entry-at; 5 loop-test; 6 loop; 12 args
     (λ c. omega arith)
     -- loop-again: 1 listed; 2 fill-entry; 3 fill-entry-arg; 4 entry-at; 5 loop-test; 6 loop; 12 args
-    (λ c. let p = c .before .before .before .before .before .before .before .before .before .before .before .before .pre in let l = c .before .before .before .before .before .before .loop .inv in let e = c .before .before .fill-entry .ensures in (search needs, omega (arith, l .1), added-next _ _ _ _ _ (p .0) (p .1) _ _ _ (l .2) (l .1) (c .before .before .before .before .before .loop-test .taken) _ (c .before .before .before .before .entry-at .ensures) _ _ (l .0 ∙ p .2) (e .0) (e .1)))
+    (λ c. let p = c .before .before .before .before .before .before .before .before .before .before .before .before .pre in let l = c .before .before .before .before .before .before .loop .inv in let
+    e = c .before .before .fill-entry .ensures in (
+      search needs,
+      omega (arith, l .1),
+      added-next _ _ _ _ _ (p .0) (p .1) _ _ _ (l .2) (l .1)
+          (c .before .before .before .before .before .loop-test .taken) _ (c .before .before .before .before .entry-at .ensures) _ _ (l .0 ∙ p .2) (e .0) (e .1),
+    ))
     -- same-length: loop-test; 1 loop; 7 args
     (λ c. search needs)
     -- returns: loop-test; 1 loop; 7 args

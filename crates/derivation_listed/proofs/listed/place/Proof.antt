@@ -15,7 +15,8 @@ place-spec = tie.close (tie.spec
     -- same-length: if1; 1 record-in; 2 record-in-arg; 3 slot-of; 4 slot-of-arg; 5 key-at; 8 args
     (λ c. search needs)
     -- returns: if1; 1 record-in; 2 record-in-arg; 3 slot-of; 4 slot-of-arg; 5 key-at; 8 args
-    (λ c. let p = c .before .before .before .before .before .before .before .before .pre in placed-old _ _ _ _ _ _ (p .0) (c .before .before .before .before .before .key-at .ensures) (p .2) (c .before .before .before .slot-of .ensures) (c .before .record-in .ensures) (c .if1 .taken))
+    (λ c. let p = c .before .before .before .before .before .before .before .before .pre in placed-old _ _ _ _ _ _ (p .0) (c .before .before .before .before .before .key-at .ensures) (p .2)
+    (c .before .before .before .slot-of .ensures) (c .before .record-in .ensures) (c .if1 .taken))
     -- cast-slots: if1; 1 record-in; 2 record-in-arg; 3 slot-of; 4 slot-of-arg; 5 key-at; 8 args
     (λ c. search needs)
     -- mul-slots: if1; 1 record-in; 2 record-in-arg; 3 slot-of; 4 slot-of-arg; 5 key-at; 8 args
@@ -25,4 +26,5 @@ place-spec = tie.close (tie.spec
     -- same-length-2: if1; 1 record-in; 2 record-in-arg; 3 slot-of; 4 slot-of-arg; 5 key-at; 8 args
     (λ c. search needs)
     -- returns-2: if1; 1 record-in; 2 record-in-arg; 3 slot-of; 4 slot-of-arg; 5 key-at; 8 args
-    (λ c. let p = c .before .before .before .before .before .before .before .before .pre in let e = c .before .before .before .slot-of .ensures in placed-new _ _ _ _ _ _ (p .0) (c .before .before .before .before .before .key-at .ensures) (p .2) e (c .before .record-in .ensures) (c .if1 .left) (omega (arith, e .inside, p .1 .room))))
+    (λ c. let p = c .before .before .before .before .before .before .before .before .pre in let e = c .before .before .before .slot-of .ensures in placed-new _ _ _ _ _ _ (p .0)
+    (c .before .before .before .before .before .key-at .ensures) (p .2) e (c .before .record-in .ensures) (c .if1 .left) (omega (arith, e .inside, p .1 .room))))

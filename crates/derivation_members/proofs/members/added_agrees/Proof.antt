@@ -10,7 +10,8 @@ use Rattle.derivation_members.proofs.members.added_agrees.Statement.{st
 use Rattle.derivation_members.proofs.members.added_agrees.Tie as tie
 
 abbrev Inv-loop : tie.InvT-loop
-Inv-loop obligation second m keys frames d s key wanted f₀ f = (s ≤ f) × (every (agrees (word obligation second m) key wanted) (addedFrom (word obligation second m) frames (d - s) (suc s)) ≡ every (agrees (word obligation second m) key wanted) (addedFrom (word obligation second m) frames (d - f) (suc f)))
+Inv-loop obligation second m keys frames d s key wanted f₀ f = (s ≤ f) × (every (agrees (word obligation second m) key wanted) (addedFrom (word obligation second m) frames (d - s) (suc s)) ≡ every
+    (agrees (word obligation second m) key wanted) (addedFrom (word obligation second m) frames (d - f) (suc f)))
 
 abbrev μ-loop : tie.MeasureT-loop
 μ-loop obligation second m keys frames d s key wanted f₀ f = d - f

@@ -12,7 +12,8 @@ use Rattle.derivation_members.proofs.members.chain_agrees.Statement.{st
 use Rattle.derivation_members.proofs.members.chain_agrees.Tie as tie
 
 abbrev Inv-loop : tie.InvT-loop
-Inv-loop obligation second m keys c key wanted l₀ l = (l < length keys) × (every (agrees (word obligation second m) key wanted) (chainTrees (word obligation second m) c) ≡ every (agrees (word obligation second m) key wanted) (chainTrees (word obligation second m) l))
+Inv-loop obligation second m keys c key wanted l₀ l = (l < length keys) × (every (agrees (word obligation second m) key wanted) (chainTrees (word obligation second m) c) ≡ every
+    (agrees (word obligation second m) key wanted) (chainTrees (word obligation second m) l))
 
 abbrev μ-loop : tie.MeasureT-loop
 μ-loop obligation second m keys c key wanted l₀ l = l

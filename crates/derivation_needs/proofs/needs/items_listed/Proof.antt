@@ -13,7 +13,8 @@ use Rattle.derivation_needs.proofs.needs.items_listed.Statement.{statem
 use Rattle.derivation_needs.proofs.needs.items_listed.Tie as tie
 
 abbrev Inv-loop : tie.InvT-loop
-Inv-loop obligation second m keys listed slots h c l₀ l = (l < length keys) × (every (held (listedTrees (word obligation second m) listed h 1)) (chainTrees (word obligation second m) c) ≡ every (held (listedTrees (word obligation second m) listed h 1)) (chainTrees (word obligation second m) l))
+Inv-loop obligation second m keys listed slots h c l₀ l = (l < length keys) × (every (held (listedTrees (word obligation second m) listed h 1)) (chainTrees (word obligation second m) c) ≡ every
+    (held (listedTrees (word obligation second m) listed h 1)) (chainTrees (word obligation second m) l))
 
 abbrev μ-loop : tie.MeasureT-loop
 μ-loop obligation second m keys listed slots h c l₀ l = l

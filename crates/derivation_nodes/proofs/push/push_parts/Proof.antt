@@ -22,4 +22,9 @@ push-parts-spec = tie.close (tie.spec
     -- same-length: 1 frames; 2 write; 3 write-arg; 4 chain-length; 5 lower-at; 6 goal-at; 7 goal-at-arg; 12 args
     (λ c. search needs)
     -- returns: 1 frames; 2 write; 3 write-arg; 4 chain-length; 5 lower-at; 6 goal-at; 7 goal-at-arg; 12 args
-    (λ c. premised-set _ _ _ _ _ _ _ _ _ _ _ (c .before .before .before .before .before .before .before .before .before .before .before .before .pre .0) (c .before .before .before .before .before .before .before .before .before .before .before .before .pre .1) (c .before .before .before .before .before .before .before .before .before .before .before .before .pre .2) refl (c .before .before .before .before .before .before .before .before .before .before .before .before .pre .3) (c .before .before .before .before .before .before .goal-at .ensures) (c .before .before .before .before .before .lower-at .ensures) (c .before .before .before .before .chain-length .ensures) (c .before .before .write .kept .0) (c .before .before .write .ensures)))
+    (λ c. premised-set _ _ _ _ _ _ _ _ _ _ _ (c .before .before .before .before .before .before .before .before .before .before .before .before .pre .0)
+    (c .before .before .before .before .before .before .before .before .before .before .before .before .pre .1)
+    (c .before .before .before .before .before .before .before .before .before .before .before .before .pre .2) refl
+    (c .before .before .before .before .before .before .before .before .before .before .before .before .pre .3) (c .before .before .before .before .before .before .goal-at .ensures)
+    (c .before .before .before .before .before .lower-at .ensures) (c .before .before .before .before .chain-length .ensures) (c .before .before .write .kept .0)
+    (c .before .before .write .ensures)))

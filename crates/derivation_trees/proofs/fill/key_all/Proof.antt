@@ -29,7 +29,8 @@ key-all-spec = tie.close (tie.spec
     -- slice-write-keys: if1; 2 slots; 3 clear; 4 clear-arg; 9 args
     (λ c. search needs)
     -- loop-holds: if1; 2 slots; 3 clear; 4 clear-arg; 9 args
-    (λ c. let t = c .before .before .before .before .before .before .before .before .before .args .keys .now in let long = length-set t 0 0 in (omega arith, omega (arith, long), refl, refl, omega (arith, long), filling-start _ _ _ (getD-set-same t 0 0 0 (omega arith)) (c .before .before .before .clear .ensures)))
+    (λ c. let t = c .before .before .before .before .before .before .before .before .before .args .keys .now in let long = length-set t 0 0 in
+    (omega arith, omega (arith, long), refl, refl, omega (arith, long), filling-start _ _ _ (getD-set-same t 0 0 0 (omega arith)) (c .before .before .before .clear .ensures)))
     -- record-key-requires: record-key-arg2; 1 record-key-arg; 2 loop-test; 3 loop; 4 if1; 6 slots; 7 clear; 8 clear-arg; 13 args
     (λ c κs. let l = c .before .before .before .loop .inv in (l .0, omega arith, omega arith, omega arith, l .5))
     -- mul-keys: 1 slots2; 2 record-key; 3 record-key-arg2; 4 record-key-arg; 5 loop-test; 6 loop; 7 if1; 9 slots; 10 clear; 11 clear-arg; 16 args
@@ -41,7 +42,9 @@ key-all-spec = tie.close (tie.spec
     -- loop-less: 1 slots2; 2 record-key; 3 record-key-arg2; 4 record-key-arg; 5 loop-test; 6 loop; 7 if1; 9 slots; 10 clear; 11 clear-arg; 16 args
     (λ c. omega arith)
     -- loop-again: 1 slots2; 2 record-key; 3 record-key-arg2; 4 record-key-arg; 5 loop-test; 6 loop; 7 if1; 9 slots; 10 clear; 11 clear-arg; 16 args
-    (λ c. let l = c .before .before .before .before .before .before .loop in let q = c .before .before .record-key .ensures in let long : length (set (l .keys) (l .i) (c .before .before .record-key .result)) ≡ length (l .keys) = length-set (l .keys) (l .i) (c .before .before .record-key .result) in (omega arith, omega arith, search needs, search needs, omega arith, filling-more _ (l .keys) _ _ (l .i) _ (omega arith) (l .inv .5) q))
+    (λ c. let l = c .before .before .before .before .before .before .loop in let q = c .before .before .record-key .ensures in let long : length
+    (set (l .keys) (l .i) (c .before .before .record-key .result)) ≡ length (l .keys) = length-set (l .keys) (l .i) (c .before .before .record-key .result) in
+    (omega arith, omega arith, search needs, search needs, omega arith, filling-more _ (l .keys) _ _ (l .i) _ (omega arith) (l .inv .5) q))
     -- same-length-2: loop-test; 1 loop; 2 if1; 4 slots; 5 clear; 6 clear-arg; 11 args
     (λ c. c .before .loop .inv .2 ∙ length-set (c .before .before .before .before .before .before .before .before .before .before .before .args .keys .now) 0 0)
     -- same-length-3: loop-test; 1 loop; 2 if1; 4 slots; 5 clear; 6 clear-arg; 11 args

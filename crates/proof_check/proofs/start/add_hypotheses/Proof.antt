@@ -22,7 +22,12 @@ add-hypotheses-spec = tie.close (tie.spec
     -- lower-at-requires: loop-test; 1 loop; 2 word-at; 7 args
     (λ c κs. search needs)
     -- add-record-requires: add-record-arg; 1 lower-at; 2 loop-test; 3 loop; 4 word-at; 9 args
-    (λ c κs. (c .before .before .before .loop .inv .ready, left-room _ _ _ _ _ (c .before .before .before .loop .inv) (c .before .before .loop-test .taken), left-item _ _ _ _ _ (c .before .before .before .loop .inv) (c .before .before .loop-test .taken) _ (c .before .lower-at .ensures)))
+    (λ c κs. (
+      c .before .before .before .loop .inv .ready,
+      left-room _ _ _ _ _ (c .before .before .before .loop .inv) (c .before .before .loop-test .taken),
+      left-item _ _ _ _ _
+          (c .before .before .before .loop .inv) (c .before .before .loop-test .taken) _ (c .before .lower-at .ensures),
+    ))
     -- add-h: 1 memory; 2 add-record; 3 add-record-arg; 4 lower-at; 5 loop-test; 6 loop; 7 word-at; 12 args
     (λ c. omega (arith, c .before .before .before .before .before .before .loop .inv .few))
     -- lower-at-requires-2: 1 memory; 2 add-record; 3 add-record-arg; 4 lower-at; 5 loop-test; 6 loop; 7 word-at; 12 args

@@ -13,7 +13,13 @@ body-key-spec = tie.close (tie.spec
     -- child-at-requires-2: child-at; 1 if1; 2 tree-kind; 6 args
     (λ c κs. search needs)
     -- equation-key-requires: child-at2; 1 child-at; 2 if1; 3 tree-kind; 7 args
-    (λ c κs. (search needs, part-in _ _ _ 1 _ _ (c .before .before .before .tree-kind .ensures) (λ z. omega (arith, z, c .before .before .if1 .taken)) (c .before .before .before .before .before .before .before .pre .1) (c .before .child-at .ensures), part-in _ _ _ 2 _ _ (c .before .before .before .tree-kind .ensures) (λ z. omega (arith, z, c .before .before .if1 .taken)) (c .before .before .before .before .before .before .before .pre .1) (c .child-at2 .ensures)))
+    (λ c κs. (
+      search needs,
+      part-in _ _ _ 1 _ _ (c .before .before .before .tree-kind .ensures) (λ z. omega (arith, z, c .before .before .if1 .taken))
+          (c .before .before .before .before .before .before .before .pre .1) (c .before .child-at .ensures),
+      part-in _ _ _ 2 _ _ (c .before .before .before .tree-kind .ensures)
+          (λ z. omega (arith, z, c .before .before .if1 .taken)) (c .before .before .before .before .before .before .before .pre .1) (c .child-at2 .ensures),
+    ))
     -- returns: equation-key; 1 child-at2; 2 child-at; 3 if1; 4 tree-kind; 8 args
     (λ c. search record-equation)
     -- number-of-requires: if1; 1 tree-kind; 5 args

@@ -10,7 +10,8 @@ use Rattle.proof_members.proofs.search.holds.Statement.{statement}
 use Rattle.proof_members.proofs.search.holds.Tie as tie
 
 abbrev Inv-loop : tie.InvT-loop
-Inv-loop obligation second m numbers memory h key i₀ i = (i ≤ h) × (member (decoded (word obligation second m) key) (sequent (word obligation second m) memory h) ≡ member (decoded (word obligation second m) key) (membersFrom (word obligation second m) memory h i))
+Inv-loop obligation second m numbers memory h key i₀ i = (i ≤ h) × (member (decoded (word obligation second m) key) (sequent (word obligation second m) memory h) ≡ member
+    (decoded (word obligation second m) key) (membersFrom (word obligation second m) memory h i))
 
 abbrev μ-loop : tie.MeasureT-loop
 μ-loop obligation second m numbers memory h key i₀ i = h - i

@@ -1,7 +1,9 @@
 use borrow.Author.Needs.{needs}
 use mathlib.Core.Path.{refl, _∙_}
 use native.Mathlib.Omega.{arith}
-use Rattle.proof_walk.specs.Walked.{visit-none, visit-stop, visit-go, follow-none, follow-stop, premises-nodes, premise-room, premise-at, premise-walked, premise-kept, item-node, rest-nodes, item-count, rest-count, links-count, links-fall, premise-falls, rest-falls, at-lower, at-marked, at-rest, fault-none, fault-kept, links-go, turn-few, links-few}
+use Rattle.proof_walk.specs.Walked.{visit-none, visit-stop, visit-go, follow-none, follow-stop, premises-nodes, premise-room, premise-at, premise-walked}
+use Rattle.proof_walk.specs.Walked.{premise-kept, item-node, rest-nodes, item-count, rest-count, links-count, links-fall, premise-falls, rest-falls}
+use Rattle.proof_walk.specs.Walked.{at-lower, at-marked, at-rest, fault-none, fault-kept, links-go, turn-few, links-few}
 use Prim.Native.Nat.{ℕ, _+_, _*_, _<_}
 use borrow.Fn.Kinds.{In}
 use borrow.Fn.PlainCycle.{Measures, is, falls, and}
@@ -75,7 +77,22 @@ pub +walk-links+walk-node+walk-premise-spec : {M : Type 1} → statement M
     -- lower-at-requires-2: lower-at; 1 if1; 8 args
     (λ c κs. search needs)
     -- walk-premise-requires: walk-premise-arg2; 1 walk-premise-arg; 2 lower-at2; 3 lower-at; 4 if1; 11 args
-    (λ c κs. (premise-falls _ _ _ t (c .before .before .before .before .before .before .before .before .before .before .before .pre .0) (c .before .before .before .before .if1 .left) (c .before .before .before .lower-at .ensures), (at-lower _ _ _ _ _ _ (c .before .before .before .before .before .before .before .before .before .before .before .pre .1 .0) _ 1 (c .before .before .before .lower-at .ensures), c .before .before .before .before .before .before .before .before .before .before .before .pre .1 .1, c .before .before .before .before .before .before .before .before .before .before .before .pre .1 .2, item-node _ _ (c .before .before .before .before .if1 .left) (c .before .before .before .before .before .before .before .before .before .before .before .pre .1 .3) _ (c .before .before .before .lower-at .ensures), item-count _ _ (c .before .before .before .before .if1 .left) (c .before .before .before .before .before .before .before .before .before .before .before .pre .1 .3) _ _ _ (c .before .before .before .lower-at .ensures) (c .before .before .lower-at2 .ensures) (c .before .before .before .before .before .before .before .before .before .before .before .pre .1 .4), c .before .before .before .before .before .before .before .before .before .before .before .pre .1 .6)))
+    (λ c κs. (
+      premise-falls _ _ _ t (c .before .before .before .before .before .before .before .before .before .before .before .pre .0) (c .before .before .before .before .if1 .left)
+          (c .before .before .before .lower-at .ensures),
+      (
+        at-lower _ _ _ _ _ _ (c .before .before .before .before .before .before .before .before .before .before .before .pre .1 .0) _ 1
+            (c .before .before .before .lower-at .ensures),
+        c .before .before .before .before .before .before .before .before .before .before .before .pre .1 .1,
+        c .before .before .before .before .before .before .before .before .before .before .before .pre .1 .2,
+        item-node _ _ (c .before .before .before .before .if1 .left)
+            (c .before .before .before .before .before .before .before .before .before .before .before .pre .1 .3) _ (c .before .before .before .lower-at .ensures),
+        item-count _ _
+            (c .before .before .before .before .if1 .left) (c .before .before .before .before .before .before .before .before .before .before .before .pre .1 .3) _ _ _
+            (c .before .before .before .lower-at .ensures) (c .before .before .lower-at2 .ensures) (c .before .before .before .before .before .before .before .before .before .before .before .pre .1 .4),
+        c .before .before .before .before .before .before .before .before .before .before .before .pre .1 .6,
+      ),
+    ))
     -- same-length: if2; 1 struct-known; 3 scratch; 5 memory; 6 walk-premise; 7 walk-premise-arg2; 8 walk-premise-arg; 9 lower-at2; 10 lower-at; 11 if1; 18 args
     (λ c. search needs)
     -- same-length-2: if2; 1 struct-known; 3 scratch; 5 memory; 6 walk-premise; 7 walk-premise-arg2; 8 walk-premise-arg; 9 lower-at2; 10 lower-at; 11 if1; 18 args
@@ -85,13 +102,57 @@ pub +walk-links+walk-node+walk-premise-spec : {M : Type 1} → statement M
     -- add-walk-links: walk-links-arg2; 1 walk-links-arg; 2 if2; 3 struct-known; 5 scratch; 7 memory; 8 walk-premise; 9 walk-premise-arg2; 10 walk-premise-arg; 11 lower-at2; 12 lower-at; 13 if1; 20 args
     (λ c. omega (arith, c .before .before .before .before .before .before .before .before .before .before .before .before .before .before .before .before .before .before .before .before .pre .1 .5))
     -- walk-links-requires: walk-links-arg2; 1 walk-links-arg; 2 if2; 3 struct-known; 5 scratch; 7 memory; 8 walk-premise; 9 walk-premise-arg2; 10 walk-premise-arg; 11 lower-at2; 12 lower-at; 13 if1; 20 args
-    (λ c κs. (rest-falls _ _ _ t (c .before .before .before .before .before .before .before .before .before .before .before .before .before .before .before .before .before .before .before .before .pre .0) (c .before .before .before .before .before .before .before .before .before .before .before .before .before .if1 .left) (c .before .before .before .before .before .before .before .before .before .before .before .lower-at2 .ensures), (at-rest _ _ _ _ _ _ (c .before .before .before .before .before .before .before .before .before .before .before .before .before .before .before .before .before .before .before .before .pre .1 .0) _ _ _ 3 (c .before .before .before .before .before .before .before .before .walk-premise .kept .1 .1 .1 .1 .1 .0) (c .before .before .before .before .before .before .before .before .walk-premise .kept .1 .1 .1 .1 .1 .1 .0) (c .before .before .before .before .before .before .before .before .walk-premise .ensures .2) (c .before .before .before .before .before .before .before .before .walk-premise .ensures .1) (c .before .before .before .before .before .before .before .before .before .before .before .lower-at2 .ensures), c .before .before .before .before .before .before .before .before .before .before .before .before .before .before .before .before .before .before .before .before .pre .1 .1, fault-kept _ _ _ _ _ (c .before .before .before .before .before .before .before .before .walk-premise .ensures .1) (c .before .before .before .before .before .before .before .before .before .before .before .before .before .before .before .before .before .before .before .before .pre .1 .2), rest-nodes _ _ (c .before .before .before .before .before .before .before .before .before .before .before .before .before .if1 .left) (c .before .before .before .before .before .before .before .before .before .before .before .before .before .before .before .before .before .before .before .before .pre .1 .3) _ (c .before .before .before .before .before .before .before .before .before .before .before .lower-at2 .ensures), rest-count _ _ (c .before .before .before .before .before .before .before .before .before .before .before .before .before .if1 .left) (c .before .before .before .before .before .before .before .before .before .before .before .before .before .before .before .before .before .before .before .before .pre .1 .3) _ _ _ (c .before .before .before .before .before .before .before .before .before .before .before .before .lower-at .ensures) (c .before .before .before .before .before .before .before .before .before .before .before .lower-at2 .ensures) (c .before .before .before .before .before .before .before .before .before .before .before .before .before .before .before .before .before .before .before .before .pre .1 .4) _ _ (c .before .before .before .before .before .before .before .before .walk-premise .ensures .0), turn-few _ _ _ _ (c .before .before .before .before .before .before .before .before .before .before .before .before .before .before .before .before .before .before .before .before .pre .1 .5) (c .before .before .before .before .before .before .before .before .before .before .before .before .before .if1 .left) (c .before .before .before .before .before .before .before .before .before .before .before .lower-at2 .ensures), c .before .before .before .before .before .before .before .before .before .before .before .before .before .before .before .before .before .before .before .before .pre .1 .6)))
+    (λ c κs. (
+      rest-falls _ _ _ t
+          (c .before .before .before .before .before .before .before .before .before .before .before .before .before .before .before .before .before .before .before .before .pre .0)
+          (c .before .before .before .before .before .before .before .before .before .before .before .before .before .if1 .left)
+          (c .before .before .before .before .before .before .before .before .before .before .before .lower-at2 .ensures),
+      (
+        at-rest _ _ _ _ _ _
+            (c .before .before .before .before .before .before .before .before .before .before .before .before .before .before .before .before .before .before .before .before .pre .1 .0) _ _ _ 3
+            (c .before .before .before .before .before .before .before .before .walk-premise .kept .1 .1 .1 .1 .1 .0)
+            (c .before .before .before .before .before .before .before .before .walk-premise .kept .1 .1 .1 .1 .1 .1 .0)
+            (c .before .before .before .before .before .before .before .before .walk-premise .ensures .2) (c .before .before .before .before .before .before .before .before .walk-premise .ensures .1)
+            (c .before .before .before .before .before .before .before .before .before .before .before .lower-at2 .ensures),
+        c .before .before .before .before .before .before .before .before .before .before .before .before .before .before .before .before .before .before .before .before .pre .1 .1,
+        fault-kept _ _ _ _
+            _ (c .before .before .before .before .before .before .before .before .walk-premise .ensures .1)
+            (c .before .before .before .before .before .before .before .before .before .before .before .before .before .before .before .before .before .before .before .before .pre .1 .2),
+        rest-nodes _ _
+            (c .before .before .before .before .before .before .before .before .before .before .before .before .before .if1 .left)
+            (c .before .before .before .before .before .before .before .before .before .before .before .before .before .before .before .before .before .before .before .before .pre .1 .3) _
+            (c .before .before .before .before .before .before .before .before .before .before .before .lower-at2 .ensures),
+        rest-count _ _
+            (c .before .before .before .before .before .before .before .before .before .before .before .before .before .if1 .left)
+            (c .before .before .before .before .before .before .before .before .before .before .before .before .before .before .before .before .before .before .before .before .pre .1 .3) _ _ _
+            (c .before .before .before .before .before .before .before .before .before .before .before .before .lower-at .ensures)
+            (c .before .before .before .before .before .before .before .before .before .before .before .lower-at2 .ensures)
+            (c .before .before .before .before .before .before .before .before .before .before .before .before .before .before .before .before .before .before .before .before .pre .1 .4) _ _
+            (c .before .before .before .before .before .before .before .before .walk-premise .ensures .0),
+        turn-few _ _ _ _
+            (c .before .before .before .before .before .before .before .before .before .before .before .before .before .before .before .before .before .before .before .before .pre .1 .5)
+            (c .before .before .before .before .before .before .before .before .before .before .before .before .before .if1 .left)
+            (c .before .before .before .before .before .before .before .before .before .before .before .lower-at2 .ensures),
+        c .before .before .before .before .before .before .before .before .before .before .before .before .before .before .before .before .before .before .before .before .pre .1 .6,
+      ),
+    ))
     -- same-length-3: 1 scratch2; 3 memory2; 4 walk-links; 5 walk-links-arg2; 6 walk-links-arg; 7 if2; 8 struct-known; 10 scratch; 12 memory; 13 walk-premise; 14 walk-premise-arg2; 15 walk-premise-arg; 16 lower-at2; 17 lower-at; 18 if1; 25 args
     (λ c. c .before .before .before .before .walk-links .kept .1 .1 .1 .1 .1 .0 ∙ c .before .before .before .before .before .before .before .before .before .before .before .before .before .walk-premise .kept .1 .1 .1 .1 .1 .0)
     -- same-length-4: 1 scratch2; 3 memory2; 4 walk-links; 5 walk-links-arg2; 6 walk-links-arg; 7 if2; 8 struct-known; 10 scratch; 12 memory; 13 walk-premise; 14 walk-premise-arg2; 15 walk-premise-arg; 16 lower-at2; 17 lower-at; 18 if1; 25 args
     (λ c. c .before .before .before .before .walk-links .kept .1 .1 .1 .1 .1 .1 .0 ∙ c .before .before .before .before .before .before .before .before .before .before .before .before .before .walk-premise .kept .1 .1 .1 .1 .1 .1 .0)
     -- returns-3: 1 scratch2; 3 memory2; 4 walk-links; 5 walk-links-arg2; 6 walk-links-arg; 7 if2; 8 struct-known; 10 scratch; 12 memory; 13 walk-premise; 14 walk-premise-arg2; 15 walk-premise-arg; 16 lower-at2; 17 lower-at; 18 if1; 25 args
-    (λ c. (links-go _ _ _ _ _ _ _ _ _ _ _ _ (c .before .before .before .before .before .before .before .before .before .before .before .before .before .before .before .before .before .before .if1 .left) (c .before .before .before .before .before .before .before .before .before .before .before .before .before .before .before .before .before .lower-at .ensures) (c .before .before .before .before .before .before .before .before .before .before .before .before .before .before .before .before .lower-at2 .ensures) (c .before .before .before .before .before .before .before .before .before .before .before .before .before .walk-premise .ensures .0) (c .before .before .before .before .before .before .before .before .before .before .before .before .before .walk-premise .ensures .1) (c .before .before .before .before .before .before .before .if2 .left) (c .before .before .before .before .walk-links .ensures .0), c .before .before .before .before .walk-links .ensures .1 ∙ c .before .before .before .before .before .before .before .before .before .before .before .before .before .walk-premise .ensures .1, c .before .before .before .before .walk-links .ensures .2)))
+    (λ c. (
+      links-go _ _ _ _ _ _ _ _ _ _ _ _
+          (c .before .before .before .before .before .before .before .before .before .before .before .before .before .before .before .before .before .before .if1 .left)
+          (c .before .before .before .before .before .before .before .before .before .before .before .before .before .before .before .before .before .lower-at .ensures)
+          (c .before .before .before .before .before .before .before .before .before .before .before .before .before .before .before .before .lower-at2 .ensures)
+          (c .before .before .before .before .before .before .before .before .before .before .before .before .before .walk-premise .ensures .0)
+          (c .before .before .before .before .before .before .before .before .before .before .before .before .before .walk-premise .ensures .1)
+          (c .before .before .before .before .before .before .before .if2 .left) (c .before .before .before .before .walk-links .ensures .0),
+      c .before .before .before .before .walk-links .ensures .1 ∙
+          c .before .before .before .before .before .before .before .before .before .before .before .before .before .walk-premise .ensures .1,
+      c .before .before .before .before .walk-links .ensures .2,
+    )))
     (λ t. walk-node-lts.spec (walk-node-calls t) (walk-node-at t) walk-node.Post
     -- returns: if1; 7 args
     (λ c. (search visit-none, refl, c .before .before .before .before .before .before .before .pre .1 .0 .blank))
@@ -110,7 +171,25 @@ pub +walk-links+walk-node+walk-premise-spec : {M : Type 1} → statement M
     -- add-walk-links: walk-links-arg2; 1 walk-links-arg; 2 lower-at; 3 if2; 5 scratch; 6 node-fault; 7 node-fault-arg2; 8 node-fault-arg; 9 if1; 16 args
     (λ c. omega arith)
     -- walk-links-requires: walk-links-arg2; 1 walk-links-arg; 2 lower-at; 3 if2; 5 scratch; 6 node-fault; 7 node-fault-arg2; 8 node-fault-arg; 9 if1; 16 args
-    (λ c κs. (links-fall _ _ _ t (c .before .before .before .before .before .before .before .before .before .before .before .before .before .before .before .before .pre .0) (c .before .before .before .before .before .before .before .before .before .if1 .left) (c .before .before .lower-at .ensures), (at-marked _ _ _ _ _ _ (c .before .before .before .before .before .before .before .before .before .before .before .before .before .before .before .before .pre .1 .0) _ _ 2 (c .before .before .before .before .before .before .node-fault .kept .1 .1 .1 .1 .1 .1 .0) (c .before .before .before .before .before .before .node-fault .ensures .1) (c .before .before .lower-at .ensures), c .before .before .before .before .before .before .before .before .before .before .before .before .before .before .before .before .pre .1 .0 .within, fault-none _ _ _ _ (c .before .before .before .before .before .before .node-fault .ensures .0) (c .before .before .before .if2 .left), premises-nodes _ _ _ _ _ (c .before .before .before .before .before .before .node-fault .ensures .0) (c .before .before .before .if2 .left) (c .before .before .lower-at .ensures), links-count _ _ _ _ (c .before .before .before .before .before .before .before .before .before .if1 .left) (c .before .before .lower-at .ensures) (c .before .before .before .before .before .before .before .before .before .before .before .before .before .before .before .before .pre .1 .2), links-few _ _ _ _ _ _ _ (c .before .before .before .before .before .before .before .before .before .before .before .before .before .before .before .before .pre .1 .0) (c .before .before .lower-at .ensures), c .before .before .before .before .before .before .before .before .before .before .before .before .before .before .before .before .pre .1 .3)))
+    (λ c κs. (
+      links-fall _ _ _ t (c .before .before .before .before .before .before .before .before .before .before .before .before .before .before .before .before .pre .0)
+          (c .before .before .before .before .before .before .before .before .before .if1 .left) (c .before .before .lower-at .ensures),
+      (
+        at-marked _ _ _ _ _ _ (c .before .before .before .before .before .before .before .before .before .before .before .before .before .before .before .before .pre .1 .0) _ _ 2
+            (c .before .before .before .before .before .before .node-fault .kept .1 .1 .1 .1 .1 .1 .0) (c .before .before .before .before .before .before .node-fault .ensures .1)
+            (c .before .before .lower-at .ensures),
+        c .before .before .before .before .before .before .before .before .before .before .before .before .before .before .before .before .pre .1 .0 .within,
+        fault-none _ _ _ _ (c .before .before .before .before .before .before .node-fault .ensures .0) (c .before .before .before .if2 .left),
+        premises-nodes _ _ _ _ _
+            (c .before .before .before .before .before .before .node-fault .ensures .0) (c .before .before .before .if2 .left) (c .before .before .lower-at .ensures),
+        links-count _ _ _ _
+            (c .before .before .before .before .before .before .before .before .before .if1 .left) (c .before .before .lower-at .ensures)
+            (c .before .before .before .before .before .before .before .before .before .before .before .before .before .before .before .before .pre .1 .2),
+        links-few _ _ _ _ _ _ _
+            (c .before .before .before .before .before .before .before .before .before .before .before .before .before .before .before .before .pre .1 .0) (c .before .before .lower-at .ensures),
+        c .before .before .before .before .before .before .before .before .before .before .before .before .before .before .before .before .pre .1 .3,
+      ),
+    ))
     -- same-length-3: 1 scratch2; 3 memory; 4 walk-links; 5 walk-links-arg2; 6 walk-links-arg; 7 lower-at; 8 if2; 10 scratch; 11 node-fault; 12 node-fault-arg2; 13 node-fault-arg; 14 if1; 21 args
     (λ c. search needs)
     -- same-length-4: 1 scratch2; 3 memory; 4 walk-links; 5 walk-links-arg2; 6 walk-links-arg; 7 lower-at; 8 if2; 10 scratch; 11 node-fault; 12 node-fault-arg2; 13 node-fault-arg; 14 if1; 21 args
@@ -119,12 +198,32 @@ pub +walk-links+walk-node+walk-premise-spec : {M : Type 1} → statement M
     (λ c. let f = c .before .before .before .before .walk-links .ensures in (search visit-go, f .1, f .2)))
     (λ t. walk-premise-lts.spec (walk-premise-calls t) (walk-premise-at t) walk-premise.Post
     -- add-premise-requires: add-premise-arg; 7 args
-    (λ c κs. (c .before .before .before .before .before .before .before .pre .1 .0 .ready, premise-room _ _ _ _ _ _ (c .before .before .before .before .before .before .before .pre .1 .0) _ _ (c .before .before .before .before .before .before .before .pre .1 .2), c .before .before .before .before .before .before .before .pre .1 .1))
+    (λ c κs. (
+      c .before .before .before .before .before .before .before .pre .1 .0 .ready,
+      premise-room _ _ _ _ _ _ (c .before .before .before .before .before .before .before .pre .1 .0) _ _
+          (c .before .before .before .before .before .before .before .pre .1 .2),
+      c .before .before .before .before .before .before .before .pre .1 .1,
+    ))
     -- walk-node-requires: walk-node-arg2; 1 walk-node-arg; 3 memory; 4 add-premise; 5 add-premise-arg; 12 args
-    (λ c κs. (omega (arith, c .before .before .before .before .before .before .before .before .before .before .before .before .pre .0), (premise-at _ _ _ _ _ _ (c .before .before .before .before .before .before .before .before .before .before .before .before .pre .1 .0) _ _ _ _ (c .before .before .before .before .add-premise .ensures), c .before .before .before .before .before .before .before .before .before .before .before .before .pre .1 .3, c .before .before .before .before .before .before .before .before .before .before .before .before .pre .1 .4, c .before .before .before .before .before .before .before .before .before .before .before .before .pre .1 .5)))
+    (λ c κs. (
+      omega (arith, c .before .before .before .before .before .before .before .before .before .before .before .before .pre .0),
+      (
+        premise-at _ _ _ _ _ _ (c .before .before .before .before .before .before .before .before .before .before .before .before .pre .1 .0) _ _ _ _
+            (c .before .before .before .before .add-premise .ensures),
+        c .before .before .before .before .before .before .before .before .before .before .before .before .pre .1 .3,
+        c .before .before .before .before .before .before .before .before .before .before .before .before .pre .1 .4,
+        c .before .before .before .before .before .before .before .before .before .before .before .before .pre .1 .5,
+      ),
+    ))
     -- same-length: 1 scratch; 3 memory2; 4 walk-node; 5 walk-node-arg2; 6 walk-node-arg; 8 memory; 9 add-premise; 10 add-premise-arg; 17 args
     (λ c. search needs)
     -- same-length-2: 1 scratch; 3 memory2; 4 walk-node; 5 walk-node-arg2; 6 walk-node-arg; 8 memory; 9 add-premise; 10 add-premise-arg; 17 args
     (λ c. search needs)
     -- returns: 1 scratch; 3 memory2; 4 walk-node; 5 walk-node-arg2; 6 walk-node-arg; 8 memory; 9 add-premise; 10 add-premise-arg; 17 args
-    (λ c. (premise-walked _ _ _ _ _ _ _ _ _ _ _ (c .before .before .before .before .before .before .before .before .before .add-premise .ensures) (c .before .before .before .before .walk-node .ensures .0), premise-kept _ _ _ _ _ _ _ _ _ (c .before .before .before .before .before .before .before .before .before .add-premise .ensures) (c .before .before .before .before .walk-node .ensures .1), c .before .before .before .before .walk-node .ensures .2)))
+    (λ c. (
+      premise-walked _ _ _ _ _ _ _ _ _ _ _ (c .before .before .before .before .before .before .before .before .before .add-premise .ensures)
+          (c .before .before .before .before .walk-node .ensures .0),
+      premise-kept _ _ _ _ _ _ _ _ _ (c .before .before .before .before .before .before .before .before .before .add-premise .ensures)
+          (c .before .before .before .before .walk-node .ensures .1),
+      c .before .before .before .before .walk-node .ensures .2,
+    )))

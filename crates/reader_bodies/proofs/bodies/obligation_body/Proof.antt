@@ -29,7 +29,8 @@ obligation-body-spec = tie.close (tie.spec
     -- same-length-6: refused; 1 if2; 2 roots-fit; 3 if1; 4 struct-known; 6 table; 8 slots; 10 seen; 11 first-fault; 12 first-fault-arg3; 13 first-fault-arg2; 14 first-fault-arg; 21 args
     (λ c. search needs)
     -- returns-2: refused; 1 if2; 2 roots-fit; 3 if1; 4 struct-known; 6 table; 8 slots; 10 seen; 11 first-fault; 12 first-fault-arg3; 13 first-fault-arg2; 14 first-fault-arg; 21 args
-    (λ c. let f = c .before .before .before .before .before .before .before .before .before .before .before .first-fault .ensures in let z = c .before .before .before .if1 .left in let late = late-refused _ _ (c .refused .ensures) in (search body-roots, f .1, names-on _ _ _ _ _ z late _ (f .2), weights-on _ _ _ _ _ z late _ _ (f .3)))
+    (λ c. let f = c .before .before .before .before .before .before .before .before .before .before .before .first-fault .ensures in let z = c .before .before .before .if1 .left in let late =
+    late-refused _ _ (c .refused .ensures) in (search body-roots, f .1, names-on _ _ _ _ _ z late _ (f .2), weights-on _ _ _ _ _ z late _ _ (f .3)))
     -- passed-requires: if2; 1 roots-fit; 2 if1; 3 struct-known; 5 table; 7 slots; 9 seen; 10 first-fault; 11 first-fault-arg3; 12 first-fault-arg2; 13 first-fault-arg; 20 args
     (λ c κs. search needs)
     -- same-length-7: passed; 1 if2; 2 roots-fit; 3 if1; 4 struct-known; 6 table; 8 slots; 10 seen; 11 first-fault; 12 first-fault-arg3; 13 first-fault-arg2; 14 first-fault-arg; 21 args
@@ -39,4 +40,5 @@ obligation-body-spec = tie.close (tie.spec
     -- same-length-9: passed; 1 if2; 2 roots-fit; 3 if1; 4 struct-known; 6 table; 8 slots; 10 seen; 11 first-fault; 12 first-fault-arg3; 13 first-fault-arg2; 14 first-fault-arg; 21 args
     (λ c. search needs)
     -- returns-3: passed; 1 if2; 2 roots-fit; 3 if1; 4 struct-known; 6 table; 8 slots; 10 seen; 11 first-fault; 12 first-fault-arg3; 13 first-fault-arg2; 14 first-fault-arg; 21 args
-    (λ c. let f = c .before .before .before .before .before .before .before .before .before .before .before .first-fault .ensures in let z = c .before .before .before .if1 .left in let late = late-passed _ (c .passed .ensures) in (search body-passed, f .1, names-on _ _ _ _ _ z late _ (f .2), weights-on _ _ _ _ _ z late _ _ (f .3))))
+    (λ c. let f = c .before .before .before .before .before .before .before .before .before .before .before .first-fault .ensures in let z = c .before .before .before .if1 .left in let late =
+    late-passed _ (c .passed .ensures) in (search body-passed, f .1, names-on _ _ _ _ _ z late _ (f .2), weights-on _ _ _ _ _ z late _ _ (f .3))))

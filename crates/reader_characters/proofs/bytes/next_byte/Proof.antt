@@ -26,8 +26,10 @@ next-byte-spec = tie.close (tie.spec
     -- add-t10: if4; 1 if3; 2 is-end; 3 byte-of; 4 if2; 5 if1; 8 args
     (λ c. search needs)
     -- returns-4: if4; 1 if3; 2 is-end; 3 byte-of; 4 if2; 5 if1; 8 args
-    (λ c. let d = c .before .before in let l : c .before .before .before .before .before .before .before .before .args .t < 7 = omega arith in byte-more _ _ _ _ _ (d .before .before .before .if1 .left) (d .before .before .if2 .left) (d .before .byte-of .ensures) (d .is-end .ensures) (c .before .if3 .left) l)
+    (λ c. let d = c .before .before in let l : c .before .before .before .before .before .before .before .before .args .t < 7 = omega arith in byte-more _ _ _ _ _
+    (d .before .before .before .if1 .left) (d .before .before .if2 .left) (d .before .byte-of .ensures) (d .is-end .ensures) (c .before .if3 .left) l)
     -- lower-at-requires: if4; 1 if3; 2 is-end; 3 byte-of; 4 if2; 5 if1; 8 args
     (λ c κs. search needs)
     -- returns-5: lower-at; 1 if4; 2 if3; 3 is-end; 4 byte-of; 5 if2; 6 if1; 9 args
-    (λ c. let d = c .before .before .before in let l : 7 ≤ c .before .before .before .before .before .before .before .before .before .args .t = omega arith in byte-last _ _ _ _ _ (d .before .before .before .if1 .left) (d .before .before .if2 .left) (d .before .byte-of .ensures) (d .is-end .ensures) (c .before .before .if3 .left) l _ (c .lower-at .ensures)))
+    (λ c. let d = c .before .before .before in let l : 7 ≤ c .before .before .before .before .before .before .before .before .before .args .t = omega arith in byte-last _ _ _ _ _
+    (d .before .before .before .if1 .left) (d .before .before .if2 .left) (d .before .byte-of .ensures) (d .is-end .ensures) (c .before .before .if3 .left) l _ (c .lower-at .ensures)))

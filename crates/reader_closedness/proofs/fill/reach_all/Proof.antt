@@ -30,7 +30,8 @@ reach-all-spec = tie.close (tie.spec
     -- loop-less: reach-at; 1 reach-at-arg; 2 loop-test; 3 loop; 7 args
     (λ c. omega arith)
     -- loop-again: reach-at; 1 reach-at-arg; 2 loop-test; 3 loop; 7 args
-    (λ c. let l = c .before .before .before .loop in let long : length (set (l .reaches) (l .e) (c .reach-at .result)) ≡ length (l .reaches) = length-set (l .reaches) (l .e) (c .reach-at .result) in (omega arith, omega arith, reached-more _ (l .reaches) (l .e) _ (omega arith) (l .inv .2) (entry-made _ (l .e) _ (c .reach-at .ensures))))
+    (λ c. let l = c .before .before .before .loop in let long : length (set (l .reaches) (l .e) (c .reach-at .result)) ≡ length (l .reaches) = length-set (l .reaches) (l .e) (c .reach-at .result) in
+    (omega arith, omega arith, reached-more _ (l .reaches) (l .e) _ (omega arith) (l .inv .2) (entry-made _ (l .e) _ (c .reach-at .ensures))))
     -- same-length: loop-test; 1 loop; 5 args
     (λ c. c .before .loop .inv .0)
     -- returns: loop-test; 1 loop; 5 args

@@ -45,7 +45,20 @@ abbrev part-reach-calls : ℕ → part-reach-lts.Claims
 part-reach-calls t = (child-at-reads.Asked, child-at-reads.Learnt, reach-at-below t, reach-at.Post)
 
 abbrev reach-at-calls : ℕ → reach-at-lts.Claims
-reach-at-calls t = (entry-of-reads.Asked, entry-of-reads.Learnt, word-at-reads.Asked, word-at-reads.Learnt, own-reach-reads.Asked, own-reach-reads.Learnt, part-reach-below t, part-reach.Post, under-reads.Asked, under-reads.Learnt, larger-reads.Asked, larger-reads.Learnt)
+reach-at-calls t = (
+  entry-of-reads.Asked,
+  entry-of-reads.Learnt,
+  word-at-reads.Asked,
+  word-at-reads.Learnt,
+  own-reach-reads.Asked,
+  own-reach-reads.Learnt,
+  part-reach-below t,
+  part-reach.Post,
+  under-reads.Asked,
+  under-reads.Learnt,
+  larger-reads.Asked,
+  larger-reads.Learnt,
+)
 
 pub +part-reach+reach-at-spec : {M : Type 1} → statement M
 +part-reach+reach-at-spec = close μ-part-reach μ-reach-at
@@ -82,4 +95,7 @@ pub +part-reach+reach-at-spec : {M : Type 1} → statement M
     -- larger-requires-3: larger2; 1 larger; 2 under; 3 part-reach3; 4 part-reach2; 5 part-reach; 6 own-reach; 7 word-at; 8 if2; 9 if1; 13 args
     (λ c κs. search needs)
     -- returns-3: larger3; 1 larger2; 2 larger; 3 under; 4 part-reach3; 5 part-reach2; 6 part-reach; 7 own-reach; 8 word-at; 9 if2; 10 if1; 14 args
-    (λ c. reach-node _ _ _ _ _ _ _ _ _ _ _ _ (c .before .before .before .before .before .before .before .before .before .if2 .left) (c .before .before .before .before .before .before .before .before .word-at .ensures) (c .before .before .before .before .before .before .before .own-reach .ensures) (c .before .before .before .before .before .before .part-reach .ensures) (c .before .before .before .before .before .part-reach2 .ensures) (c .before .before .before .before .part-reach3 .ensures) (c .before .before .before .under .ensures) (c .before .before .larger .ensures) (c .before .larger2 .ensures) (c .larger3 .ensures)))
+    (λ c. reach-node _ _ _ _ _ _ _ _ _ _ _ _ (c .before .before .before .before .before .before .before .before .before .if2 .left)
+    (c .before .before .before .before .before .before .before .before .word-at .ensures) (c .before .before .before .before .before .before .before .own-reach .ensures)
+    (c .before .before .before .before .before .before .part-reach .ensures) (c .before .before .before .before .before .part-reach2 .ensures)
+    (c .before .before .before .before .part-reach3 .ensures) (c .before .before .before .under .ensures) (c .before .before .larger .ensures) (c .before .larger2 .ensures) (c .larger3 .ensures)))

@@ -9,4 +9,12 @@ index-at-spec = tie.close (tie.spec
     -- word-at-requires: 2 args
     (λ c κs. search needs)
     -- returns: word-at; 3 args
-    (λ c. (c .word-at .ensures, let a = c .before .before .before .args in omega (arith, c .word-at .ensures, word-small (a .obligation .now) (a .second .now) (a .m) (a .i) 1 (λ k. omega (arith, c .before .before .shared-slice-known .given k)) (λ k. omega (arith, c .before .shared-slice-known2 .given k))))))
+    (λ c. (
+      c .word-at .ensures,
+      let a = c .before .before .before .args in omega (
+        arith,
+        c .word-at .ensures,
+        word-small (a .obligation .now) (a .second .now) (a .m) (a .i) 1
+            (λ k. omega (arith, c .before .before .shared-slice-known .given k)) (λ k. omega (arith, c .before .shared-slice-known2 .given k)),
+      ),
+    )))

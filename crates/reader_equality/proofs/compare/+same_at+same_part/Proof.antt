@@ -63,19 +63,31 @@ pub +same-at+same-part-spec : {M : Type 1} → statement M
     -- same-head-requires: if4; 1 if3; 2 if2; 3 has-both; 4 if1; 8 args
     (λ c κs. search needs)
     -- returns-5: if5; 1 same-head; 2 if4; 3 if3; 4 if2; 5 has-both; 6 if1; 10 args
-    (λ c. from-parts _ _ _ _ _ _ (c .before .before .before .before .before .before .if1 .left) _ (c .before .before .before .before .before .has-both .ensures) (c .before .before .before .before .if2 .left) (c .before .before .before .if3 .left) (c .before .before .if4 .left) _ (both-stop _ _ _ (c .before .same-head .ensures) (c .if5 .taken)))
+    (λ c. from-parts _ _ _ _ _ _ (c .before .before .before .before .before .before .if1 .left) _ (c .before .before .before .before .before .has-both .ensures)
+    (c .before .before .before .before .if2 .left) (c .before .before .before .if3 .left) (c .before .before .if4 .left) _ (both-stop _ _ _ (c .before .same-head .ensures) (c .if5 .taken)))
     -- same-part-requires: if5; 1 same-head; 2 if4; 3 if3; 4 if2; 5 has-both; 6 if1; 10 args
     (λ c κs. (omega arith, (omega arith, c .before .before .before .before .before .before .before .before .before .before .pre .1)))
     -- returns-6: if6; 1 same-part; 2 if5; 3 same-head; 4 if4; 5 if3; 6 if2; 7 has-both; 8 if1; 12 args
-    (λ c. from-parts _ _ _ _ _ _ (c .before .before .before .before .before .before .before .before .if1 .left) _ (c .before .before .before .before .before .before .before .has-both .ensures) (c .before .before .before .before .before .before .if2 .left) (c .before .before .before .before .before .if3 .left) (c .before .before .before .before .if4 .left) _ (both-go _ _ _ _ (c .before .before .before .same-head .ensures) (c .before .before .if5 .left) (both-stop _ _ _ (c .before .same-part .ensures) (c .if6 .taken))))
+    (λ c. from-parts _ _ _ _ _ _ (c .before .before .before .before .before .before .before .before .if1 .left) _ (c .before .before .before .before .before .before .before .has-both .ensures)
+    (c .before .before .before .before .before .before .if2 .left) (c .before .before .before .before .before .if3 .left) (c .before .before .before .before .if4 .left) _
+    (both-go _ _ _ _ (c .before .before .before .same-head .ensures) (c .before .before .if5 .left) (both-stop _ _ _ (c .before .same-part .ensures) (c .if6 .taken))))
     -- same-part-requires-2: if6; 1 same-part; 2 if5; 3 same-head; 4 if4; 5 if3; 6 if2; 7 has-both; 8 if1; 12 args
     (λ c κs. (omega arith, (omega arith, c .before .before .before .before .before .before .before .before .before .before .before .before .pre .1)))
     -- returns-7: if7; 1 same-part2; 2 if6; 3 same-part; 4 if5; 5 same-head; 6 if4; 7 if3; 8 if2; 9 has-both; 10 if1; 14 args
-    (λ c. from-parts _ _ _ _ _ _ (c .before .before .before .before .before .before .before .before .before .before .if1 .left) _ (c .before .before .before .before .before .before .before .before .before .has-both .ensures) (c .before .before .before .before .before .before .before .before .if2 .left) (c .before .before .before .before .before .before .before .if3 .left) (c .before .before .before .before .before .before .if4 .left) _ (both-go _ _ _ _ (c .before .before .before .before .before .same-head .ensures) (c .before .before .before .before .if5 .left) (both-go _ _ _ _ (c .before .before .before .same-part .ensures) (c .before .before .if6 .left) (both-stop _ _ _ (c .before .same-part2 .ensures) (c .if7 .taken)))))
+    (λ c. from-parts _ _ _ _ _ _ (c .before .before .before .before .before .before .before .before .before .before .if1 .left) _
+    (c .before .before .before .before .before .before .before .before .before .has-both .ensures) (c .before .before .before .before .before .before .before .before .if2 .left)
+    (c .before .before .before .before .before .before .before .if3 .left) (c .before .before .before .before .before .before .if4 .left) _
+    (both-go _ _ _ _ (c .before .before .before .before .before .same-head .ensures) (c .before .before .before .before .if5 .left)
+    (both-go _ _ _ _ (c .before .before .before .same-part .ensures) (c .before .before .if6 .left) (both-stop _ _ _ (c .before .same-part2 .ensures) (c .if7 .taken)))))
     -- same-part-requires-3: if7; 1 same-part2; 2 if6; 3 same-part; 4 if5; 5 same-head; 6 if4; 7 if3; 8 if2; 9 has-both; 10 if1; 14 args
     (λ c κs. (omega arith, (omega arith, c .before .before .before .before .before .before .before .before .before .before .before .before .before .before .pre .1)))
     -- returns-8: same-part3; 1 if7; 2 same-part2; 3 if6; 4 same-part; 5 if5; 6 same-head; 7 if4; 8 if3; 9 if2; 10 has-both; 11 if1; 15 args
-    (λ c. from-parts _ _ _ _ _ _ (c .before .before .before .before .before .before .before .before .before .before .before .if1 .left) _ (c .before .before .before .before .before .before .before .before .before .before .has-both .ensures) (c .before .before .before .before .before .before .before .before .before .if2 .left) (c .before .before .before .before .before .before .before .before .if3 .left) (c .before .before .before .before .before .before .before .if4 .left) _ (both-go _ _ _ _ (c .before .before .before .before .before .before .same-head .ensures) (c .before .before .before .before .before .if5 .left) (both-go _ _ _ _ (c .before .before .before .before .same-part .ensures) (c .before .before .before .if6 .left) (both-go _ _ _ _ (c .before .before .same-part2 .ensures) (c .before .if7 .left) (c .same-part3 .ensures))))))
+    (λ c. from-parts _ _ _ _ _ _ (c .before .before .before .before .before .before .before .before .before .before .before .if1 .left) _
+    (c .before .before .before .before .before .before .before .before .before .before .has-both .ensures) (c .before .before .before .before .before .before .before .before .before .if2 .left)
+    (c .before .before .before .before .before .before .before .before .if3 .left) (c .before .before .before .before .before .before .before .if4 .left) _
+    (both-go _ _ _ _ (c .before .before .before .before .before .before .same-head .ensures) (c .before .before .before .before .before .if5 .left)
+    (both-go _ _ _ _ (c .before .before .before .before .same-part .ensures) (c .before .before .before .if6 .left)
+    (both-go _ _ _ _ (c .before .before .same-part2 .ensures) (c .before .if7 .left) (c .same-part3 .ensures))))))
     (λ t. same-part-lts.spec (same-part-calls t) (same-part-at t) same-part.Post
     -- part-of-requires: 3 args
     (λ c κs. search needs)

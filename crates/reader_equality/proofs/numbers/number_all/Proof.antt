@@ -30,7 +30,18 @@ number-all-spec = tie.close (tie.spec
     -- slice-write-table: if1; 5 args
     (λ c. search needs)
     -- loop-holds: if1; 5 args
-    (λ c. let t = c .before .before .before .before .before .args .table .now in let z = c .before .before .before .before .before .pre .2 in (omega arith, omega (arith, length-set t 0 0), refl, refl, omega (arith, length-set t 0 0), numbered-one _ _ (getD-set-same t 0 0 0 (omega arith)), placed-none _ _ z, entered-none _ _ z, omega (arith, length-set t 0 0)))
+    (λ c. let t = c .before .before .before .before .before .args .table .now in let z = c .before .before .before .before .before .pre .2 in (
+      omega arith,
+      omega (arith, length-set t 0 0),
+      refl,
+      refl,
+      omega (arith, length-set t 0 0),
+      numbered-one _ _ (getD-set-same t 0 0 0 (omega arith)),
+      placed-none _ _ z,
+      entered-none _ _ z,
+      omega
+          (arith, length-set t 0 0),
+    ))
     -- place-requires: place-arg2; 1 place-arg; 2 loop-test; 3 loop; 4 if1; 9 args
     (λ c κs. search needs)
     -- mul-table: 1 slots; 2 place; 3 place-arg2; 4 place-arg; 5 loop-test; 6 loop; 7 if1; 12 args
@@ -42,7 +53,20 @@ number-all-spec = tie.close (tie.spec
     -- loop-less: 1 slots; 2 place; 3 place-arg2; 4 place-arg; 5 loop-test; 6 loop; 7 if1; 12 args
     (λ c. omega arith)
     -- loop-again: 1 slots; 2 place; 3 place-arg2; 4 place-arg; 5 loop-test; 6 loop; 7 if1; 12 args
-    (λ c. let l = c .before .before .before .before .before .before .loop in let q = c .before .before .place .ensures in let long : length (set (l .table) (l .i) (c .before .before .place .result)) ≡ length (l .table) = length-set (l .table) (l .i) (c .before .before .place .result) in (omega arith, omega arith, search needs, search needs, omega arith, numbered-more _ (l .table) (l .i) _ (omega arith) (l .inv .5) (number-put _ (l .table) _ _ (l .i) _ (l .inv .0) (l .inv .5) (l .inv .7) q), placed-set _ _ (l .table) _ (l .i) _ (q .placed), number-entered _ (l .table) _ _ (l .i) _ (l .inv .0) (l .inv .5) (l .inv .7) q, omega arith))
+    (λ c. let l = c .before .before .before .before .before .before .loop in let q = c .before .before .place .ensures in let long : length (set (l .table) (l .i) (c .before .before .place .result)) ≡
+    length (l .table) = length-set (l .table) (l .i) (c .before .before .place .result) in (
+      omega arith,
+      omega arith,
+      search needs,
+      search needs,
+      omega arith,
+      numbered-more _ (l .table) (l .i) _
+          (omega arith) (l .inv .5) (number-put _ (l .table) _ _ (l .i) _ (l .inv .0) (l .inv .5) (l .inv .7) q),
+      placed-set _ _ (l .table) _ (l .i) _ (q .placed),
+      number-entered _ (l .table) _ _ (l .i)
+          _ (l .inv .0) (l .inv .5) (l .inv .7) q,
+      omega arith,
+    ))
     -- clear-requires: clear-arg; 1 loop-test; 2 loop; 3 if1; 8 args
     (λ c κs. search needs)
     -- same-length: 1 slots2; 2 clear; 3 clear-arg; 4 loop-test; 5 loop; 6 if1; 11 args

@@ -24,4 +24,5 @@ place-spec = tie.close (tie.spec
     -- same-length-2: if1; 1 record-in; 2 record-in-arg; 3 slot-of; 4 slot-of-arg; 9 args
     (λ c. search needs)
     -- returns-2: if1; 1 record-in; 2 record-in-arg; 3 slot-of; 4 slot-of-arg; 9 args
-    (λ c. let p = c .before .before .before .before .before .before .before .before .before .pre in let free = sym (c .before .record-in .ensures) ∙ c .if1 .left in let e = c .before .before .before .slot-of .ensures in new-put _ _ _ _ _ (p .0) refl (p .4) e free (omega (arith, e .inside))))
+    (λ c. let p = c .before .before .before .before .before .before .before .before .before .pre in let free = sym (c .before .record-in .ensures) ∙ c .if1 .left in let e =
+    c .before .before .before .slot-of .ensures in new-put _ _ _ _ _ (p .0) refl (p .4) e free (omega (arith, e .inside))))

@@ -57,7 +57,20 @@ fits-parts-below t =
     and 4 fits-parts-kinds.ps (falls 4 fits-parts-kinds.ps _<_ μ-fits-parts t) fits-parts.Pre
 
 abbrev fits-at-calls : ℕ → fits-at-lts.Claims
-fits-at-calls t = (entry-at-reads.Asked, entry-at-reads.Learnt, same-at-reads.Asked, same-at-reads.Learnt, word-at-reads.Asked, word-at-reads.Learnt, fits-variable-reads.Asked, fits-variable-reads.Learnt, fits-parts-below t, fits-parts.Post, store-reads.Asked, store-reads.Learnt)
+fits-at-calls t = (
+  entry-at-reads.Asked,
+  entry-at-reads.Learnt,
+  same-at-reads.Asked,
+  same-at-reads.Learnt,
+  word-at-reads.Asked,
+  word-at-reads.Learnt,
+  fits-variable-reads.Asked,
+  fits-variable-reads.Learnt,
+  fits-parts-below t,
+  fits-parts.Post,
+  store-reads.Asked,
+  store-reads.Learnt,
+)
 
 abbrev fits-child-calls : ℕ → fits-child-lts.Claims
 fits-child-calls t = (child-at-reads.Asked, child-at-reads.Learnt, fits-at-below t, fits-at.Post)
@@ -96,13 +109,22 @@ unfolding fitsParts
     -- same-length-4: if5; 2 seen; 3 fits-parts; 4 fits-parts-arg; 5 if4; 6 if3; 7 word-at; 8 if2; 9 entry-at; 10 entry-at-arg; 11 if1; 16 args
     (λ c. search needs)
     -- returns-5: if5; 2 seen; 3 fits-parts; 4 fits-parts-arg; 5 if4; 6 if3; 7 word-at; 8 if2; 9 entry-at; 10 entry-at-arg; 11 if1; 16 args
-    (λ c. let f = c .before .before .before .fits-parts .ensures in (fits-more _ _ _ _ (c .before .before .before .before .before .before .before .before .before .before .before .if1 .left) _ (c .before .before .before .before .before .before .before .word-at .ensures) (c .before .before .before .before .before .before .if3 .left) (c .before .before .before .before .before .if4 .left) _ (found-false _ _ (f .0) (c .if5 .taken)), f .1))
+    (λ c. let f = c .before .before .before .fits-parts .ensures in (
+      fits-more _ _ _ _ (c .before .before .before .before .before .before .before .before .before .before .before .if1 .left) _
+          (c .before .before .before .before .before .before .before .word-at .ensures) (c .before .before .before .before .before .before .if3 .left)
+          (c .before .before .before .before .before .if4 .left) _ (found-false _ _ (f .0) (c .if5 .taken)),
+      f .1,
+    ))
     -- store-requires: store-arg; 1 if5; 3 seen; 4 fits-parts; 5 fits-parts-arg; 6 if4; 7 if3; 8 word-at; 9 if2; 10 entry-at; 11 entry-at-arg; 12 if1; 17 args
     (λ c κs. search needs)
     -- same-length-5: 1 seen2; 2 store; 3 store-arg; 4 if5; 6 seen; 7 fits-parts; 8 fits-parts-arg; 9 if4; 10 if3; 11 word-at; 12 if2; 13 entry-at; 14 entry-at-arg; 15 if1; 20 args
     (λ c. search needs)
     -- returns-6: 1 seen2; 2 store; 3 store-arg; 4 if5; 6 seen; 7 fits-parts; 8 fits-parts-arg; 9 if4; 10 if3; 11 word-at; 12 if2; 13 entry-at; 14 entry-at-arg; 15 if1; 20 args
-    (λ c. let f = c .before .before .before .before .before .before .before .fits-parts .ensures in let e = fits-more _ _ _ _ (c .before .before .before .before .before .before .before .before .before .before .before .before .before .before .before .if1 .left) _ (c .before .before .before .before .before .before .before .before .before .before .before .word-at .ensures) (c .before .before .before .before .before .before .before .before .before .before .if3 .left) (c .before .before .before .before .before .before .before .before .before .if4 .left) _ (found-true _ _ (f .0) (c .before .before .before .before .if5 .left)) in (e, remembered-more _ _ _ _ _ _ (f .1) e (c .before .before .store .ensures))))
+    (λ c. let f = c .before .before .before .before .before .before .before .fits-parts .ensures in let e = fits-more _ _ _ _
+    (c .before .before .before .before .before .before .before .before .before .before .before .before .before .before .before .if1 .left) _
+    (c .before .before .before .before .before .before .before .before .before .before .before .word-at .ensures)
+    (c .before .before .before .before .before .before .before .before .before .before .if3 .left) (c .before .before .before .before .before .before .before .before .before .if4 .left) _
+    (found-true _ _ (f .0) (c .before .before .before .before .if5 .left)) in (e, remembered-more _ _ _ _ _ _ (f .1) e (c .before .before .store .ensures))))
     (λ t. fits-child-lts.spec (fits-child-calls t) (fits-child-at t) fits-child.Post
     -- child-at-requires: 4 args
     (λ c κs. search needs)
@@ -132,7 +154,8 @@ unfolding fitsParts
     -- returns-3: if3; 2 seen2; 3 fits-child2; 4 fits-child-arg2; 5 if2; 7 seen; 8 fits-child; 9 fits-child-arg; 10 if1; 11 same-head; 16 args
     (λ c. (search boths, c .before .before .before .fits-child2 .ensures .1))
     -- fits-child-requires-3: fits-child-arg3; 1 if3; 3 seen2; 4 fits-child2; 5 fits-child-arg2; 6 if2; 8 seen; 9 fits-child; 10 fits-child-arg; 11 if1; 12 same-head; 17 args
-    (λ c κs. let p = c .before .before .before .before .before .before .before .before .before .before .before .before .before .before .before .before .before .pre in (omega arith, (p .1 .0, p .1 .1, c .before .before .before .before .fits-child2 .ensures .1)))
+    (λ c κs. let p = c .before .before .before .before .before .before .before .before .before .before .before .before .before .before .before .before .before .pre in
+    (omega arith, (p .1 .0, p .1 .1, c .before .before .before .before .fits-child2 .ensures .1)))
     -- same-length-3: 1 seen3; 2 fits-child3; 3 fits-child-arg3; 4 if3; 6 seen2; 7 fits-child2; 8 fits-child-arg2; 9 if2; 11 seen; 12 fits-child; 13 fits-child-arg; 14 if1; 15 same-head; 20 args
     (λ c. search needs)
     -- returns-4: 1 seen3; 2 fits-child3; 3 fits-child-arg3; 4 if3; 6 seen2; 7 fits-child2; 8 fits-child-arg2; 9 if2; 11 seen; 12 fits-child; 13 fits-child-arg; 14 if1; 15 same-head; 20 args

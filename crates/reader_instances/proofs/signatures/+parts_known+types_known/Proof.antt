@@ -48,7 +48,18 @@ abbrev parts-known-calls : ℕ → parts-known-lts.Claims
 parts-known-calls t = (part-at-reads.Asked, part-at-reads.Learnt, types-known-below t, types-known.Post)
 
 abbrev types-known-calls : ℕ → types-known-lts.Claims
-types-known-calls t = (entry-at-reads.Asked, entry-at-reads.Learnt, word-at-reads.Asked, word-at-reads.Learnt, type-variable-below-reads.Asked, type-variable-below-reads.Learnt, parts-known-below t, parts-known.Post, store-reads.Asked, store-reads.Learnt)
+types-known-calls t = (
+  entry-at-reads.Asked,
+  entry-at-reads.Learnt,
+  word-at-reads.Asked,
+  word-at-reads.Learnt,
+  type-variable-below-reads.Asked,
+  type-variable-below-reads.Learnt,
+  parts-known-below t,
+  parts-known.Post,
+  store-reads.Asked,
+  store-reads.Learnt,
+)
 
 pub +parts-known+types-known-spec : {M : Type 1} → statement M
 unfolding typesBelowParts
@@ -65,7 +76,8 @@ unfolding typesBelowParts
     -- part-at-requires-2: if1; 2 seen; 3 types-known; 4 types-known-arg; 5 part-at; 9 args
     (λ c κs. search needs)
     -- types-known-requires-2: types-known-arg2; 1 part-at2; 2 if1; 4 seen; 5 types-known; 6 types-known-arg; 7 part-at; 11 args
-    (λ c κs. let p = c .before .before .before .before .before .before .before .before .before .before .before .pre in (part-falls _ _ _ _ _ t (p .0) (p .1 .0) (c .before .part-at2 .ensures), c .before .before .before .before .before .types-known .ensures .1))
+    (λ c κs. let p = c .before .before .before .before .before .before .before .before .before .before .before .pre in
+    (part-falls _ _ _ _ _ t (p .0) (p .1 .0) (c .before .part-at2 .ensures), c .before .before .before .before .before .types-known .ensures .1))
     -- same-length-2: if2; 2 seen2; 3 types-known2; 4 types-known-arg2; 5 part-at2; 6 if1; 8 seen; 9 types-known; 10 types-known-arg; 11 part-at; 15 args
     (λ c. search needs)
     -- returns-2: if2; 2 seen2; 3 types-known2; 4 types-known-arg2; 5 part-at2; 6 if1; 8 seen; 9 types-known; 10 types-known-arg; 11 part-at; 15 args
@@ -73,7 +85,8 @@ unfolding typesBelowParts
     -- part-at-requires-3: if2; 2 seen2; 3 types-known2; 4 types-known-arg2; 5 part-at2; 6 if1; 8 seen; 9 types-known; 10 types-known-arg; 11 part-at; 15 args
     (λ c κs. search needs)
     -- types-known-requires-3: types-known-arg3; 1 part-at3; 2 if2; 4 seen2; 5 types-known2; 6 types-known-arg2; 7 part-at2; 8 if1; 10 seen; 11 types-known; 12 types-known-arg; 13 part-at; 17 args
-    (λ c κs. let p = c .before .before .before .before .before .before .before .before .before .before .before .before .before .before .before .before .before .pre in (part-falls _ _ _ _ _ t (p .0) (p .1 .0) (c .before .part-at3 .ensures), c .before .before .before .before .before .types-known2 .ensures .1))
+    (λ c κs. let p = c .before .before .before .before .before .before .before .before .before .before .before .before .before .before .before .before .before .pre in
+    (part-falls _ _ _ _ _ t (p .0) (p .1 .0) (c .before .part-at3 .ensures), c .before .before .before .before .before .types-known2 .ensures .1))
     -- same-length-3: 1 seen3; 2 types-known3; 3 types-known-arg3; 4 part-at3; 5 if2; 7 seen2; 8 types-known2; 9 types-known-arg2; 10 part-at2; 11 if1; 13 seen; 14 types-known; 15 types-known-arg; 16 part-at; 20 args
     (λ c. search needs)
     -- returns-3: 1 seen3; 2 types-known3; 3 types-known-arg3; 4 part-at3; 5 if2; 7 seen2; 8 types-known2; 9 types-known-arg2; 10 part-at2; 11 if1; 13 seen; 14 types-known; 15 types-known-arg; 16 part-at; 20 args
@@ -100,10 +113,23 @@ unfolding typesBelowParts
     -- same-length-3: if4; 2 seen; 3 parts-known; 4 parts-known-arg; 5 if3; 6 type-variable-below; 7 word-at; 8 if2; 9 entry-at; 10 entry-at-arg; 11 if1; 15 args
     (λ c. search needs)
     -- returns-4: if4; 2 seen; 3 parts-known; 4 parts-known-arg; 5 if3; 6 type-variable-below; 7 word-at; 8 if2; 9 entry-at; 10 entry-at-arg; 11 if1; 15 args
-    (λ c. (types-more _ _ _ _ _ (c .before .before .before .before .before .before .before .before .before .before .before .if1 .left) (c .before .before .before .before .before .before .before .word-at .ensures) (both-go _ _ _ _ (c .before .before .before .before .before .before .type-variable-below .ensures) (c .before .before .before .before .before .if3 .left) (found-false _ _ (c .before .before .before .parts-known .ensures .0) (c .if4 .taken))), c .before .before .before .parts-known .ensures .1))
+    (λ c. (
+      types-more _ _ _ _ _ (c .before .before .before .before .before .before .before .before .before .before .before .if1 .left)
+          (c .before .before .before .before .before .before .before .word-at .ensures) (both-go _ _ _ _ (c .before .before .before .before .before .before .type-variable-below .ensures)
+          (c .before .before .before .before .before .if3 .left) (found-false _ _ (c .before .before .before .parts-known .ensures .0) (c .if4 .taken))),
+      c .before .before .before .parts-known .ensures .1,
+    ))
     -- store-requires: store-arg; 1 if4; 3 seen; 4 parts-known; 5 parts-known-arg; 6 if3; 7 type-variable-below; 8 word-at; 9 if2; 10 entry-at; 11 entry-at-arg; 12 if1; 16 args
     (λ c κs. search needs)
     -- same-length-4: 1 seen2; 2 store; 3 store-arg; 4 if4; 6 seen; 7 parts-known; 8 parts-known-arg; 9 if3; 10 type-variable-below; 11 word-at; 12 if2; 13 entry-at; 14 entry-at-arg; 15 if1; 19 args
     (λ c. search needs)
     -- returns-5: 1 seen2; 2 store; 3 store-arg; 4 if4; 6 seen; 7 parts-known; 8 parts-known-arg; 9 if3; 10 type-variable-below; 11 word-at; 12 if2; 13 entry-at; 14 entry-at-arg; 15 if1; 19 args
-    (λ c. let e = types-more _ _ _ _ _ (c .before .before .before .before .before .before .before .before .before .before .before .before .before .before .before .if1 .left) (c .before .before .before .before .before .before .before .before .before .before .before .word-at .ensures) (both-go _ _ _ _ (c .before .before .before .before .before .before .before .before .before .before .type-variable-below .ensures) (c .before .before .before .before .before .before .before .before .before .if3 .left) (found-true _ _ (c .before .before .before .before .before .before .before .parts-known .ensures .0) (c .before .before .before .before .if4 .left))) in (e, known-more _ _ _ _ _ _ (c .before .before .before .before .before .before .before .parts-known .ensures .1) e (c .before .before .store .ensures))))
+    (λ c. let e = types-more _ _ _ _ _ (c .before .before .before .before .before .before .before .before .before .before .before .before .before .before .before .if1 .left)
+    (c .before .before .before .before .before .before .before .before .before .before .before .word-at .ensures)
+    (both-go _ _ _ _ (c .before .before .before .before .before .before .before .before .before .before .type-variable-below .ensures)
+    (c .before .before .before .before .before .before .before .before .before .if3 .left) (found-true _ _ (c .before .before .before .before .before .before .before .parts-known .ensures .0)
+    (c .before .before .before .before .if4 .left))) in (
+      e,
+      known-more _ _ _ _ _ _ (c .before .before .before .before .before .before .before .parts-known .ensures .1) e
+          (c .before .before .store .ensures),
+    )))

@@ -17,7 +17,9 @@ enter-spec = tie.close (tie.spec
     -- same-length: if2; 1 record-in; 2 record-in-arg; 3 slot-of; 4 slot-of-arg; 5 if1; 6 struct-known; 7 key-of; 11 args
     (λ c. search needs)
     -- returns-2: if2; 1 record-in; 2 record-in-arg; 3 slot-of; 4 slot-of-arg; 5 if1; 6 struct-known; 7 key-of; 11 args
-    (λ c. let p = c .before .before .before .before .before .before .before .before .before .before .before .pre in enter-old _ _ _ _ (p .0) (c .before .before .before .before .before .before .before .key-of .ensures) (p .2) (c .before .before .before .before .before .if1 .left) _ (c .before .before .before .slot-of .ensures) _ (c .before .record-in .ensures) (c .if2 .taken))
+    (λ c. let p = c .before .before .before .before .before .before .before .before .before .before .before .pre in enter-old _ _ _ _ (p .0)
+    (c .before .before .before .before .before .before .before .key-of .ensures) (p .2) (c .before .before .before .before .before .if1 .left) _ (c .before .before .before .slot-of .ensures) _
+    (c .before .record-in .ensures) (c .if2 .taken))
     -- cast-slots: if2; 1 record-in; 2 record-in-arg; 3 slot-of; 4 slot-of-arg; 5 if1; 6 struct-known; 7 key-of; 11 args
     (λ c. omega (arith, c .before .before .before .before .before .before .before .before .before .before .before .pre .1 .small))
     -- mul-slots: if2; 1 record-in; 2 record-in-arg; 3 slot-of; 4 slot-of-arg; 5 if1; 6 struct-known; 7 key-of; 11 args
@@ -27,4 +29,6 @@ enter-spec = tie.close (tie.spec
     -- same-length-2: if2; 1 record-in; 2 record-in-arg; 3 slot-of; 4 slot-of-arg; 5 if1; 6 struct-known; 7 key-of; 11 args
     (λ c. search needs)
     -- returns-3: if2; 1 record-in; 2 record-in-arg; 3 slot-of; 4 slot-of-arg; 5 if1; 6 struct-known; 7 key-of; 11 args
-    (λ c. let p = c .before .before .before .before .before .before .before .before .before .before .before .pre in let e = c .before .before .before .slot-of .ensures in enter-new _ _ _ _ (p .0) (c .before .before .before .before .before .before .before .key-of .ensures) (p .2) (c .before .before .before .before .before .if1 .left) _ e _ (c .before .record-in .ensures) (c .if2 .left) (omega (arith, e .inside, p .1 .room))))
+    (λ c. let p = c .before .before .before .before .before .before .before .before .before .before .before .pre in let e = c .before .before .before .slot-of .ensures in enter-new _ _ _ _ (p .0)
+    (c .before .before .before .before .before .before .before .key-of .ensures) (p .2) (c .before .before .before .before .before .if1 .left) _ e _ (c .before .record-in .ensures) (c .if2 .left)
+    (omega (arith, e .inside, p .1 .room))))

@@ -31,16 +31,32 @@ slot-of-spec = tie.close (tie.spec
     -- same-key-requires: key-of; 1 loop-test; 2 loop; 3 record-in; 4 bucket-of; 8 args
     (λ c κs. search needs)
     -- returns: if1; 1 same-key; 2 key-of; 3 loop-test; 4 loop; 5 record-in; 6 bucket-of; 10 args
-    (λ c. let l = c .before .before .before .before .loop .inv in search-found _ _ _ _ _ _ (l .1) (l .2) _ (l .0) (keys-equal _ _ _ (c .before .before .key-of .ensures) _ (c .before .same-key .ensures) (c .if1 .taken)) (c .before .before .before .loop-test .taken))
+    (λ c. let l = c .before .before .before .before .loop .inv in search-found _ _ _ _ _ _ (l .1) (l .2) _ (l .0)
+    (keys-equal _ _ _ (c .before .before .key-of .ensures) _ (c .before .same-key .ensures) (c .if1 .taken)) (c .before .before .before .loop-test .taken))
     -- slot-under-requires: if1; 1 same-key; 2 key-of; 3 loop-test; 4 loop; 5 record-in; 6 bucket-of; 10 args
-    (λ c κs. let p = c .before .before .before .before .before .before .before .before .before .before .pre in omega (arith, turn-below _ _ _ _ _ (p .1) (c .before .before .before .before .loop .inv .1) (c .before .before .before .loop-test .taken)))
+    (λ c κs. let p = c .before .before .before .before .before .before .before .before .before .before .pre in omega
+    (arith, turn-below _ _ _ _ _ (p .1) (c .before .before .before .before .loop .inv .1) (c .before .before .before .loop-test .taken)))
     -- turned-requires: slot-under; 1 if1; 2 same-key; 3 key-of; 4 loop-test; 5 loop; 6 record-in; 7 bucket-of; 11 args
     (λ c κs. search needs)
     -- record-in-requires-2: turned; 1 slot-under; 2 if1; 3 same-key; 4 key-of; 5 loop-test; 6 loop; 7 record-in; 8 bucket-of; 12 args
-    (λ c κs. let p = c .before .before .before .before .before .before .before .before .before .before .before .before .pre in omega (arith, turn-in _ _ _ _ _ (p .1) (c .before .before .before .before .before .before .loop .inv .1) (c .before .before .before .before .before .loop-test .taken) _ _ (c .before .slot-under .ensures)))
+    (λ c κs. let p = c .before .before .before .before .before .before .before .before .before .before .before .before .pre in omega (
+      arith,
+      turn-in _ _ _ _ _ (p .1) (c .before .before .before .before .before .before .loop .inv .1) (c .before .before .before .before .before .loop-test .taken) _ _
+          (c .before .slot-under .ensures),
+    ))
     -- loop-less: record-in2; 1 turned; 2 slot-under; 3 if1; 4 same-key; 5 key-of; 6 loop-test; 7 loop; 8 record-in; 9 bucket-of; 13 args
-    (λ c. let p = c .before .before .before .before .before .before .before .before .before .before .before .before .before .pre in let q = turn-rises _ _ _ _ _ (p .1) (c .before .before .before .before .before .before .before .loop .inv .1) (c .before .before .before .before .before .before .loop-test .taken) _ _ (c .before .before .slot-under .ensures) in omega (arith, q))
+    (λ c. let p = c .before .before .before .before .before .before .before .before .before .before .before .before .before .pre in let q = turn-rises _ _ _ _ _ (p .1)
+    (c .before .before .before .before .before .before .before .loop .inv .1) (c .before .before .before .before .before .before .loop-test .taken) _ _ (c .before .before .slot-under .ensures) in
+    omega (arith, q))
     -- loop-again: record-in2; 1 turned; 2 slot-under; 3 if1; 4 same-key; 5 key-of; 6 loop-test; 7 loop; 8 record-in; 9 bucket-of; 13 args
-    (λ c. let p = c .before .before .before .before .before .before .before .before .before .before .before .before .before .pre in let l = c .before .before .before .before .before .before .before .loop .inv in (turn-in _ _ _ _ _ (p .1) (l .1) (c .before .before .before .before .before .before .loop-test .taken) _ _ (c .before .before .slot-under .ensures), c .record-in2 .ensures, search-more _ _ _ _ _ _ (l .1) (l .2) (c .before .before .before .before .before .before .loop-test .taken) (keys-differ _ _ _ (c .before .before .before .before .before .key-of .ensures) _ (c .before .before .before .before .same-key .ensures) (c .before .before .before .if1 .left)) _ _ (c .before .turned .ensures) (c .before .before .slot-under .ensures)))
+    (λ c. let p = c .before .before .before .before .before .before .before .before .before .before .before .before .before .pre in let l =
+    c .before .before .before .before .before .before .before .loop .inv in (
+      turn-in _ _ _ _ _ (p .1) (l .1) (c .before .before .before .before .before .before .loop-test .taken) _ _
+          (c .before .before .slot-under .ensures),
+      c .record-in2 .ensures,
+      search-more _ _ _ _ _ _ (l .1) (l .2) (c .before .before .before .before .before .before .loop-test .taken)
+          (keys-differ _ _ _ (c .before .before .before .before .before .key-of .ensures) _ (c .before .before .before .before .same-key .ensures) (c .before .before .before .if1 .left)) _ _
+          (c .before .turned .ensures) (c .before .before .slot-under .ensures),
+    ))
     -- returns-2: loop-test; 1 loop; 2 record-in; 3 bucket-of; 7 args
     (λ c. search search-end))

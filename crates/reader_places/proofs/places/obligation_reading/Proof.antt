@@ -48,6 +48,17 @@ obligation-reading-spec = tie.close (tie.spec
     -- slice-aggregate-obligation-body-4: table; 1 slots; 2 scratch3; 3 numbers3; 4 obligation-body-arg; 5 scratch2; 6 numbers2; 7 number-all; 8 scratch; 9 numbers; 10 number-all-arg; 11 word-of; 12 if2; 13 header-fits; 14 if1; 15 length-fits; 17 args
     (λ c. search needs)
     -- obligation-body-requires: table; 1 slots; 2 scratch3; 3 numbers3; 4 obligation-body-arg; 5 scratch2; 6 numbers2; 7 number-all; 8 scratch; 9 numbers; 10 number-all-arg; 11 word-of; 12 if2; 13 header-fits; 14 if1; 15 length-fits; 17 args
-    (λ c κs. let s = obligation-small _ _ (c .before .before .before .before .before .before .before .before .before .before .before .before .before .before .before .length-fits .ensures) (c .before .before .before .before .before .before .before .before .before .before .before .before .before .before .if1 .left) _ (c .before .before .before .before .before .before .before .before .before .before .before .before .before .header-fits .ensures) (c .before .before .before .before .before .before .before .before .before .before .before .before .if2 .left) _ (c .before .before .before .before .before .before .before .before .before .before .before .word-of .ensures) in (s, omega (arith, s), record { first = refl }, zeros-zeros 6144, c .before .before .before .before .before .before .before .number-all .ensures .0, zeros-zeros 1024))
+    (λ c κs. let s = obligation-small _ _ (c .before .before .before .before .before .before .before .before .before .before .before .before .before .before .before .length-fits .ensures)
+    (c .before .before .before .before .before .before .before .before .before .before .before .before .before .before .if1 .left) _
+    (c .before .before .before .before .before .before .before .before .before .before .before .before .before .header-fits .ensures)
+    (c .before .before .before .before .before .before .before .before .before .before .before .before .if2 .left) _
+    (c .before .before .before .before .before .before .before .before .before .before .before .word-of .ensures) in
+    (s, omega (arith, s), record { first = refl }, zeros-zeros 6144, c .before .before .before .before .before .before .before .number-all .ensures .0, zeros-zeros 1024))
     -- returns-3: table2; 1 slots2; 2 scratch4; 3 obligation-body; 4 table; 5 slots; 6 scratch3; 7 numbers3; 8 obligation-body-arg; 9 scratch2; 10 numbers2; 11 number-all; 12 scratch; 13 numbers; 14 number-all-arg; 15 word-of; 16 if2; 17 header-fits; 18 if1; 19 length-fits; 21 args
-    (λ c. obligation-rest _ _ (c .before .before .before .before .before .before .before .before .before .before .before .before .before .before .before .before .before .before .before .length-fits .ensures) (c .before .before .before .before .before .before .before .before .before .before .before .before .before .before .before .before .before .before .if1 .left) _ (c .before .before .before .before .before .before .before .before .before .before .before .before .before .before .before .before .before .header-fits .ensures) (c .before .before .before .before .before .before .before .before .before .before .before .before .before .before .before .before .if2 .left) _ (c .before .before .before .before .before .before .before .before .before .before .before .before .before .before .before .word-of .ensures) _ (c .before .before .before .obligation-body .ensures .0)))
+    (λ c. obligation-rest _ _
+    (c .before .before .before .before .before .before .before .before .before .before .before .before .before .before .before .before .before .before .before .length-fits .ensures)
+    (c .before .before .before .before .before .before .before .before .before .before .before .before .before .before .before .before .before .before .if1 .left) _
+    (c .before .before .before .before .before .before .before .before .before .before .before .before .before .before .before .before .before .header-fits .ensures)
+    (c .before .before .before .before .before .before .before .before .before .before .before .before .before .before .before .before .if2 .left) _
+    (c .before .before .before .before .before .before .before .before .before .before .before .before .before .before .before .word-of .ensures) _
+    (c .before .before .before .obligation-body .ensures .0)))

@@ -34,6 +34,20 @@ read-proof-spec = tie.close (tie.spec
     -- slice-aggregate-second-reading-6: passed; 1 named; 2 table; 3 slots; 4 scratch3; 5 numbers3; 6 scratch2; 7 numbers2; 8 number-all; 9 scratch; 10 numbers; 11 word-of; 12 if1; 13 struct-known; 14 obligation-reading; 17 args
     (λ c. search needs)
     -- second-reading-requires: passed; 1 named; 2 table; 3 slots; 4 scratch3; 5 numbers3; 6 scratch2; 7 numbers2; 8 number-all; 9 scratch; 10 numbers; 11 word-of; 12 if1; 13 struct-known; 14 obligation-reading; 17 args
-    (λ c κs. (omega arith, c .before .before .before .before .before .before .before .before .before .before .before .word-of .ensures, passed-small _ _ _ (c .before .before .before .before .before .before .before .before .before .before .before .before .before .before .obligation-reading .ensures) (c .before .before .before .before .before .before .before .before .before .before .before .before .if1 .left) (c .before .before .before .before .before .before .before .before .before .before .before .word-of .ensures), room-for-proof, zeros-zeros 12288, zeros-blank 4096, zeros-cleared 4096, zeros-cleared 4096, c .before .before .before .before .before .before .before .before .number-all .ensures .0, zeros-zeros 4096))
+    (λ c κs. (
+      omega arith,
+      c .before .before .before .before .before .before .before .before .before .before .before .word-of .ensures,
+      passed-small _ _ _
+          (c .before .before .before .before .before .before .before .before .before .before .before .before .before .before .obligation-reading .ensures)
+          (c .before .before .before .before .before .before .before .before .before .before .before .before .if1 .left)
+          (c .before .before .before .before .before .before .before .before .before .before .before .word-of .ensures),
+      room-for-proof,
+      zeros-zeros 12288,
+      zeros-blank 4096,
+      zeros-cleared 4096,
+      zeros-cleared 4096,
+      c .before .before .before .before .before .before .before .before .number-all .ensures .0,
+      zeros-zeros 4096,
+    ))
     -- returns-2: passed2; 1 named2; 2 table2; 3 slots2; 4 scratch4; 5 second-reading; 6 passed; 7 named; 8 table; 9 slots; 10 scratch3; 11 numbers3; 12 scratch2; 13 numbers2; 14 number-all; 15 scratch; 16 numbers; 17 word-of; 18 if1; 19 struct-known; 20 obligation-reading; 23 args
     (λ c. search answers))

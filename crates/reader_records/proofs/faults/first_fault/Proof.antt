@@ -34,7 +34,8 @@ first-fault-spec = tie.close (tie.spec
     -- weigh-requires: weigh-arg; 1 loop-test; 2 loop; 3 file-of; 10 args
     (λ c κs. search needs)
     -- record-fault-requires: record-fault-arg2; 1 record-fault-arg; 2 weigh; 3 weigh-arg; 4 loop-test; 5 loop; 6 file-of; 13 args
-    (λ c κs. let p = c .before .before .before .before .before .before .before .before .before .before .before .before .before .pre in let l = c .before .before .before .before .before .loop .inv in (c .before .before .weigh .ensures, p .3, l .0, omega (arith, p .4, l .2, c .before .before .before .before .loop-test .taken), l .4, l .7))
+    (λ c κs. let p = c .before .before .before .before .before .before .before .before .before .before .before .before .before .pre in let l = c .before .before .before .before .before .loop .inv in
+    (c .before .before .weigh .ensures, p .3, l .0, omega (arith, p .4, l .2, c .before .before .before .before .loop-test .taken), l .4, l .7))
     -- same-length: if1; 2 slots; 4 seen; 5 record-fault; 6 record-fault-arg2; 7 record-fault-arg; 8 weigh; 9 weigh-arg; 10 loop-test; 11 loop; 12 file-of; 19 args
     (λ c. search needs)
     -- same-length-2: if1; 2 slots; 4 seen; 5 record-fault; 6 record-fault-arg2; 7 record-fault-arg; 8 weigh; 9 weigh-arg; 10 loop-test; 11 loop; 12 file-of; 19 args
@@ -42,7 +43,14 @@ first-fault-spec = tie.close (tie.spec
     -- same-length-3: if1; 2 slots; 4 seen; 5 record-fault; 6 record-fault-arg2; 7 record-fault-arg; 8 weigh; 9 weigh-arg; 10 loop-test; 11 loop; 12 file-of; 19 args
     (λ c. search needs)
     -- returns: if1; 2 slots; 4 seen; 5 record-fault; 6 record-fault-arg2; 7 record-fault-arg; 8 weigh; 9 weigh-arg; 10 loop-test; 11 loop; 12 file-of; 19 args
-    (λ c. let f = c .before .before .before .before .before .record-fault .ensures in let l = c .before .before .before .before .before .before .before .before .before .before .before .loop .inv in (fault-stop _ _ _ _ _ _ _ (c .before .before .before .before .before .before .before .before .before .before .before .before .file-of .ensures) (c .before .before .before .before .before .before .before .before .before .before .before .loop .inv .6) (c .before .before .before .before .before .before .before .before .before .before .loop-test .taken) (c .before .before .before .before .before .record-fault .ensures .0) (c .if1 .taken), f .1, names-stop _ _ _ _ _ _ _ (f .0) (c .if1 .taken) _ (f .2), weights-stop _ _ _ _ _ _ _ (f .0) (c .if1 .taken) _ _ (l .5)))
+    (λ c. let f = c .before .before .before .before .before .record-fault .ensures in let l = c .before .before .before .before .before .before .before .before .before .before .before .loop .inv in (
+      fault-stop _ _ _ _ _ _ _ (c .before .before .before .before .before .before .before .before .before .before .before .before .file-of .ensures)
+          (c .before .before .before .before .before .before .before .before .before .before .before .loop .inv .6)
+          (c .before .before .before .before .before .before .before .before .before .before .loop-test .taken) (c .before .before .before .before .before .record-fault .ensures .0) (c .if1 .taken),
+      f .1,
+      names-stop _ _ _ _ _ _ _ (f .0) (c .if1 .taken) _ (f .2),
+      weights-stop _ _ _ _ _ _ _ (f .0) (c .if1 .taken) _ _ (l .5),
+    ))
     -- cast-table: if1; 2 slots; 4 seen; 5 record-fault; 6 record-fault-arg2; 7 record-fault-arg; 8 weigh; 9 weigh-arg; 10 loop-test; 11 loop; 12 file-of; 19 args
     (λ c. omega (arith, capped-small _ _ (c .before .before .before .before .before .before .before .before .weigh .ensures)))
     -- mul-table: if1; 2 slots; 4 seen; 5 record-fault; 6 record-fault-arg2; 7 record-fault-arg; 8 weigh; 9 weigh-arg; 10 loop-test; 11 loop; 12 file-of; 19 args
@@ -54,7 +62,20 @@ first-fault-spec = tie.close (tie.spec
     -- loop-less: if1; 2 slots; 4 seen; 5 record-fault; 6 record-fault-arg2; 7 record-fault-arg; 8 weigh; 9 weigh-arg; 10 loop-test; 11 loop; 12 file-of; 19 args
     (λ c. omega arith)
     -- loop-again: if1; 2 slots; 4 seen; 5 record-fault; 6 record-fault-arg2; 7 record-fault-arg; 8 weigh; 9 weigh-arg; 10 loop-test; 11 loop; 12 file-of; 19 args
-    (λ c. let l = c .before .before .before .before .before .before .before .before .before .before .before .loop in let f = c .before .before .before .before .before .record-fault .ensures in (omega arith, search needs, search needs, search needs, looked-next _ _ _ _ (c .if1 .left) (f .2), weighed-more _ _ (l .table) (l .i) _ (omega arith) (l .inv .5) (c .before .before .before .before .before .before .before .before .weigh .ensures), scan-more _ _ _ _ _ (l .inv .6) (c .before .before .before .before .before .before .before .before .before .before .loop-test .taken) _ (f .0) (c .if1 .left), f .1, omega arith, omega arith))
+    (λ c. let l = c .before .before .before .before .before .before .before .before .before .before .before .loop in let f = c .before .before .before .before .before .record-fault .ensures in (
+      omega arith,
+      search needs,
+      search needs,
+      search needs,
+      looked-next _ _ _ _ (c .if1 .left) (f .2),
+      weighed-more _ _ (l .table) (l .i) _ (omega arith) (l .inv .5)
+          (c .before .before .before .before .before .before .before .before .weigh .ensures),
+      scan-more _ _ _ _ _ (l .inv .6)
+          (c .before .before .before .before .before .before .before .before .before .before .loop-test .taken) _ (f .0) (c .if1 .left),
+      f .1,
+      omega arith,
+      omega arith,
+    ))
     -- same-length-4: loop-test; 1 loop; 2 file-of; 9 args
     (λ c. search needs)
     -- same-length-5: loop-test; 1 loop; 2 file-of; 9 args

@@ -48,14 +48,29 @@ pub +arguments-fit-spec : {M : Type 1} → statement M
     -- same-length: if3; 2 seen; 3 fits-at; 4 fits-at-arg; 5 lower-at2; 6 type-at; 7 lower-at; 8 if2; 9 if1; 14 args
     (λ c. search needs)
     -- returns-3: if3; 2 seen; 3 fits-at; 4 fits-at-arg; 5 lower-at2; 6 type-at; 7 lower-at; 8 if2; 9 if1; 14 args
-    (λ c. arguments-stop _ _ _ _ (c .before .before .before .before .before .before .before .before .before .if1 .left) (c .before .before .before .before .before .before .before .before .if2 .left) _ _ _ (c .before .before .before .before .before .before .before .lower-at .ensures) (c .before .before .before .before .before .before .type-at .ensures) (c .before .before .before .before .before .lower-at2 .ensures) _ (c .before .before .before .fits-at .ensures .0) (c .if3 .taken))
+    (λ c. arguments-stop _ _ _ _ (c .before .before .before .before .before .before .before .before .before .if1 .left) (c .before .before .before .before .before .before .before .before .if2 .left) _
+    _ _ (c .before .before .before .before .before .before .before .lower-at .ensures) (c .before .before .before .before .before .before .type-at .ensures)
+    (c .before .before .before .before .before .lower-at2 .ensures) _ (c .before .before .before .fits-at .ensures .0) (c .if3 .taken))
     -- lower-at-requires-3: if3; 2 seen; 3 fits-at; 4 fits-at-arg; 5 lower-at2; 6 type-at; 7 lower-at; 8 if2; 9 if1; 14 args
     (λ c κs. search needs)
     -- lower-at-requires-4: lower-at3; 1 if3; 3 seen; 4 fits-at; 5 fits-at-arg; 6 lower-at2; 7 type-at; 8 lower-at; 9 if2; 10 if1; 15 args
     (λ c κs. search needs)
     -- arguments-fit-requires: arguments-fit-arg; 1 lower-at4; 2 lower-at3; 3 if3; 5 seen; 6 fits-at; 7 fits-at-arg; 8 lower-at2; 9 type-at; 10 lower-at; 11 if2; 12 if1; 17 args
-    (λ c κs. (next-falls _ _ _ t (c .before .before .before .before .before .before .before .before .before .before .before .before .before .before .before .before .before .pre .0) (c .before .before .before .before .before .before .before .before .before .before .before .before .if1 .left) (c .before .before .lower-at3 .ensures), (c .before .before .before .before .before .before .before .before .before .before .before .before .before .before .before .before .before .pre .1 .0, c .before .before .before .before .before .before .fits-at .ensures .1)))
+    (λ c κs. (
+      next-falls _ _ _ t (c .before .before .before .before .before .before .before .before .before .before .before .before .before .before .before .before .before .pre .0)
+          (c .before .before .before .before .before .before .before .before .before .before .before .before .if1 .left) (c .before .before .lower-at3 .ensures),
+      (
+        c .before .before .before .before .before .before .before .before .before .before .before .before .before .before .before .before .before .pre .1 .0,
+        c .before .before .before .before .before .before .fits-at .ensures .1,
+      ),
+    ))
     -- same-length-2: 1 seen2; 2 arguments-fit; 3 arguments-fit-arg; 4 lower-at4; 5 lower-at3; 6 if3; 8 seen; 9 fits-at; 10 fits-at-arg; 11 lower-at2; 12 type-at; 13 lower-at; 14 if2; 15 if1; 20 args
     (λ c. search needs)
     -- returns-4: 1 seen2; 2 arguments-fit; 3 arguments-fit-arg; 4 lower-at4; 5 lower-at3; 6 if3; 8 seen; 9 fits-at; 10 fits-at-arg; 11 lower-at2; 12 type-at; 13 lower-at; 14 if2; 15 if1; 20 args
-    (λ c. arguments-go _ _ _ _ (c .before .before .before .before .before .before .before .before .before .before .before .before .before .before .before .if1 .left) (c .before .before .before .before .before .before .before .before .before .before .before .before .before .before .if2 .left) _ _ _ (c .before .before .before .before .before .before .before .before .before .before .before .before .before .lower-at .ensures) (c .before .before .before .before .before .before .before .before .before .before .before .before .type-at .ensures) (c .before .before .before .before .before .before .before .before .before .before .before .lower-at2 .ensures) _ (c .before .before .before .before .before .before .before .before .before .fits-at .ensures .0) (c .before .before .before .before .before .before .if3 .left) _ _ _ (c .before .before .before .before .before .lower-at3 .ensures) (c .before .before .before .before .lower-at4 .ensures) (c .before .before .arguments-fit .ensures)))
+    (λ c. arguments-go _ _ _ _ (c .before .before .before .before .before .before .before .before .before .before .before .before .before .before .before .if1 .left)
+    (c .before .before .before .before .before .before .before .before .before .before .before .before .before .before .if2 .left) _ _ _
+    (c .before .before .before .before .before .before .before .before .before .before .before .before .before .lower-at .ensures)
+    (c .before .before .before .before .before .before .before .before .before .before .before .before .type-at .ensures)
+    (c .before .before .before .before .before .before .before .before .before .before .before .lower-at2 .ensures) _
+    (c .before .before .before .before .before .before .before .before .before .fits-at .ensures .0) (c .before .before .before .before .before .before .if3 .left) _ _ _
+    (c .before .before .before .before .before .lower-at3 .ensures) (c .before .before .before .before .lower-at4 .ensures) (c .before .before .arguments-fit .ensures)))

@@ -41,8 +41,15 @@ pub +items-below-spec : {M : Type 1} → statement M
     -- lower-at-requires-2: if2; 2 seen; 3 types-known; 4 types-known-arg; 5 lower-at; 6 if1; 10 args
     (λ c κs. search needs)
     -- items-below-requires: items-below-arg; 1 lower-at2; 2 if2; 4 seen; 5 types-known; 6 types-known-arg; 7 lower-at; 8 if1; 12 args
-    (λ c κs. (next-falls _ _ _ t (c .before .before .before .before .before .before .before .before .before .before .before .before .pre .0) (c .before .before .before .before .before .before .before .before .if1 .left) (c .before .lower-at2 .ensures), c .before .before .before .before .before .types-known .ensures .1))
+    (λ c κs. (
+      next-falls _ _ _ t (c .before .before .before .before .before .before .before .before .before .before .before .before .pre .0)
+          (c .before .before .before .before .before .before .before .before .if1 .left) (c .before .lower-at2 .ensures),
+      c .before .before .before .before .before .types-known .ensures .1,
+    ))
     -- same-length-2: 1 seen2; 2 items-below; 3 items-below-arg; 4 lower-at2; 5 if2; 7 seen; 8 types-known; 9 types-known-arg; 10 lower-at; 11 if1; 15 args
     (λ c. search needs)
     -- returns-3: 1 seen2; 2 items-below; 3 items-below-arg; 4 lower-at2; 5 if2; 7 seen; 8 types-known; 9 types-known-arg; 10 lower-at; 11 if1; 15 args
-    (λ c. items-go _ _ _ (c .before .before .before .before .before .before .before .before .before .before .before .if1 .left) _ (c .before .before .before .before .before .before .before .before .before .before .lower-at .ensures) _ (c .before .before .before .before .before .before .before .before .types-known .ensures .0) (c .before .before .before .before .before .if2 .left) _ _ (c .before .before .before .before .lower-at2 .ensures) (c .before .before .items-below .ensures)))
+    (λ c. items-go _ _ _ (c .before .before .before .before .before .before .before .before .before .before .before .if1 .left) _
+    (c .before .before .before .before .before .before .before .before .before .before .lower-at .ensures) _
+    (c .before .before .before .before .before .before .before .before .types-known .ensures .0) (c .before .before .before .before .before .if2 .left) _ _
+    (c .before .before .before .before .lower-at2 .ensures) (c .before .before .items-below .ensures)))

@@ -34,8 +34,23 @@ application-typed-spec = tie.close (tie.spec
     -- part-signature-holds-end: within; 1 lower-at6; 2 lower-at5; 3 lower-at4; 4 lower-at3; 5 if1; 6 has-links; 7 word-at; 8 lower-at2; 9 lower-at; 14 args
     (λ c. search needs)
     -- signature-holds-requires: signature-holds-arg; 1 within; 2 lower-at6; 3 lower-at5; 4 lower-at4; 5 lower-at3; 6 if1; 7 has-links; 8 word-at; 9 lower-at2; 10 lower-at; 15 args
-    (λ c κs. (c .before .before .before .before .before .before .before .before .before .before .before .before .before .before .before .pre .0, zeros-take (c .before .within .result - 0) (c .before .before .before .before .before .before .before .before .before .before .before .before .before .before .before .args .seen .now) (c .before .before .before .before .before .before .before .before .before .before .before .before .before .before .before .pre .1)))
+    (λ c κs. (
+      c .before .before .before .before .before .before .before .before .before .before .before .before .before .before .before .pre .0,
+      zeros-take (c .before .within .result - 0)
+          (c .before .before .before .before .before .before .before .before .before .before .before .before .before .before .before .args .seen .now)
+          (c .before .before .before .before .before .before .before .before .before .before .before .before .before .before .before .pre .1),
+    ))
     -- same-length: 1 seen; 2 signature-holds; 3 signature-holds-arg; 4 within; 5 lower-at6; 6 lower-at5; 7 lower-at4; 8 lower-at3; 9 if1; 10 has-links; 11 word-at; 12 lower-at2; 13 lower-at; 18 args
     (λ c. search needs)
     -- returns-2: 1 seen; 2 signature-holds; 3 signature-holds-arg; 4 within; 5 lower-at6; 6 lower-at5; 7 lower-at4; 8 lower-at3; 9 if1; 10 has-links; 11 word-at; 12 lower-at2; 13 lower-at; 18 args
-    (λ c. (application-go _ _ _ _ _ (c .before .before .before .before .before .before .before .before .before .before .before .before .before .lower-at .ensures) (c .before .before .before .before .before .before .before .before .before .before .before .before .lower-at2 .ensures) (c .before .before .before .before .before .before .before .before .before .before .before .word-at .ensures) _ (c .before .before .before .before .before .before .before .before .before .before .has-links .ensures) (c .before .before .before .before .before .before .before .before .before .if1 .left) _ _ _ _ _ (c .before .before .before .before .before .before .before .before .lower-at3 .ensures) (c .before .before .before .before .before .before .before .lower-at4 .ensures) (c .before .before .before .before .before .before .lower-at5 .ensures) (c .before .before .before .before .before .lower-at6 .ensures) (c .before .before .signature-holds .ensures .0), zeros-join _ _ (c .before .before .signature-holds .ensures .1) (zeros-drop (c .before .before .before .before .within .result - 0) (c .before .before .before .before .before .before .before .before .before .before .before .before .before .before .before .before .before .before .args .seen .now) (c .before .before .before .before .before .before .before .before .before .before .before .before .before .before .before .before .before .before .pre .1)))))
+    (λ c. (
+      application-go _ _ _ _ _ (c .before .before .before .before .before .before .before .before .before .before .before .before .before .lower-at .ensures)
+          (c .before .before .before .before .before .before .before .before .before .before .before .before .lower-at2 .ensures)
+          (c .before .before .before .before .before .before .before .before .before .before .before .word-at .ensures) _
+          (c .before .before .before .before .before .before .before .before .before .before .has-links .ensures) (c .before .before .before .before .before .before .before .before .before .if1 .left) _
+          _ _ _ _ (c .before .before .before .before .before .before .before .before .lower-at3 .ensures) (c .before .before .before .before .before .before .before .lower-at4 .ensures)
+          (c .before .before .before .before .before .before .lower-at5 .ensures) (c .before .before .before .before .before .lower-at6 .ensures) (c .before .before .signature-holds .ensures .0),
+      zeros-join _ _ (c .before .before .signature-holds .ensures .1) (zeros-drop (c .before .before .before .before .within .result - 0)
+          (c .before .before .before .before .before .before .before .before .before .before .before .before .before .before .before .before .before .before .args .seen .now)
+          (c .before .before .before .before .before .before .before .before .before .before .before .before .before .before .before .before .before .before .pre .1)),
+    )))

@@ -24,4 +24,9 @@ function-typed-spec = tie.close (tie.spec
     -- same-length: 1 seen; 2 signature-below; 3 signature-below-arg; 4 within; 5 lower-at; 6 word-at; 10 args
     (λ c. search needs)
     -- returns: 1 seen; 2 signature-below; 3 signature-below-arg; 4 within; 5 lower-at; 6 word-at; 10 args
-    (λ c. (search function-is, zeros-join _ _ (c .before .before .signature-below .ensures .1) (zeros-drop (c .before .before .before .before .within .result - 0) (c .before .before .before .before .before .before .before .before .before .before .args .seen .now) (c .before .before .before .before .before .before .before .before .before .before .pre)))))
+    (λ c. (
+      search function-is,
+      zeros-join _ _ (c .before .before .signature-below .ensures .1) (zeros-drop (c .before .before .before .before .within .result - 0)
+          (c .before .before .before .before .before .before .before .before .before .before .args .seen .now)
+          (c .before .before .before .before .before .before .before .before .before .before .pre)),
+    )))

@@ -23,4 +23,7 @@ signature-fits-spec = tie.close (tie.spec
     -- same-length-2: 1 seen2; 2 arguments-fit; 3 arguments-fit-arg; 4 lower-at2; 5 if2; 7 seen; 8 fits-at; 9 fits-at-arg; 10 lower-at; 11 if1; 16 args
     (λ c. search needs)
     -- returns-3: 1 seen2; 2 arguments-fit; 3 arguments-fit-arg; 4 lower-at2; 5 if2; 7 seen; 8 fits-at; 9 fits-at-arg; 10 lower-at; 11 if1; 16 args
-    (λ c. signature-go _ _ _ _ _ (c .before .before .before .before .before .before .before .before .before .before .before .if1 .left) _ (c .before .before .before .before .before .before .before .before .before .before .lower-at .ensures) _ (c .before .before .before .before .before .before .before .before .fits-at .ensures .0) (c .before .before .before .before .before .if2 .left) _ _ (c .before .before .before .before .lower-at2 .ensures) (c .before .before .arguments-fit .ensures)))
+    (λ c. signature-go _ _ _ _ _ (c .before .before .before .before .before .before .before .before .before .before .before .if1 .left) _
+    (c .before .before .before .before .before .before .before .before .before .before .lower-at .ensures) _
+    (c .before .before .before .before .before .before .before .before .fits-at .ensures .0) (c .before .before .before .before .before .if2 .left) _ _
+    (c .before .before .before .before .lower-at2 .ensures) (c .before .before .arguments-fit .ensures)))

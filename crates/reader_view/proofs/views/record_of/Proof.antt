@@ -171,7 +171,8 @@ module _ {M : Type 1} (𝓤 : URA M) (H : Heap 𝓤) (A : Atoms 𝓤) (W : Given
         pass1 ! (init ! 8 refl (shr-slice-lawful 𝓤 H A W (named 0) κ u8 .typed s (v ∷ []) p .0)) $ pass1 ! (init ! 6 refl (shr-slice-lawful 𝓤 H A W (named 1) κ′ u8 .typed t (v′ ∷ []) p′ .0)) $
         pass1 ! (init ! 4 refl (tt, record { fits = gm })) $ pass1 ! (init ! 2 refl (tt, record { fits = gi })) $ pass0 ! $
         move ! (12 ∷ []) $ use1 W (raw (New 𝓤 H A mem run .pre to-new) ⊛ ‵ All) (goes-new gm gi) $ split ! $
-        calls-at ! fm (New 𝓤 H A mem run) known-new to-new (and-then ! (load ! (from ! (stop !)) (look ! 10 refl)) (and-then ! (load ! (from ! (stop !)) (look ! 8 refl)) (and-then ! (load ! (from ! (stop !)) (look ! 6 refl)) (no-more !)))) (λ u.
+        calls-at ! fm (New 𝓤 H A mem run) known-new to-new (and-then ! (load ! (from ! (stop !)) (look ! 10 refl))
+        (and-then ! (load ! (from ! (stop !)) (look ! 8 refl)) (and-then ! (load ! (from ! (stop !)) (look ! 6 refl)) (no-more !)))) (λ u.
         use1 W (later (some (λ (d : View). ((‵ (flft κ q) ⊛ ‵ (flft κ′ q′) ⊛ ‵ ftrue) ⊛ ‵ (B κs .own d (u ∷ []))) ⊛ raw (ensured 𝓤 H A new.ended (new.clauses 𝓤 H A mem run) κs (s, (t, (m, tt))) tt d)))) (id⊢ 𝓤 _) $ await ! tt $ pick ! (λ d.
         split ! $ move ! (1 ∷ []) $ use1 W (raw (fact 𝓤 (Views s t m d))) (new-said d) $ heard ! (Views s t m d) (λ e. split ! $ move ! (1 ∷ []) $
         -- [what the view owns; the tokens; the parameters; room for _5; …; _4; …; _1; …; room for _0; …]
@@ -179,7 +180,8 @@ module _ {M : Type 1} (𝓤 : URA M) (H : Heap 𝓤) (A : Atoms 𝓤) (W : Given
         land ! (from ! (stop !)) (init ! 3 refl (LL.lawful (T.the-type αᵉ βᵉ) (T′.the-laws αᵉ βᵉ) 𝓤 H A W .typed d _ is .0)) $
         use2 W (raw (At 𝓤 H A mem run .pre (to-at d u))) (goes-at gi d u) $
         calls-at ! fm (At 𝓤 H A mem run) known-at (to-at d u) (and-then ! (load ! (from ! (stop !)) (look ! 2 refl)) (and-then ! (load ! (from ! (stop !)) (look ! 4 refl)) (no-more !))) (λ u′.
-        use1 W (later (some (λ (r : Record). ((‵ (flft κ q) ⊛ ‵ (flft κ′ q′) ⊛ ‵ ftrue) ⊛ ‵ (S.the-row .own r (u′ ∷ []))) ⊛ raw (ensured 𝓤 H A record-at.ended (record-at.clauses 𝓤 H A mem run) κs (d, (i, tt)) tt r)))) (id⊢ 𝓤 _) $ await ! tt $ pick ! (λ r.
+        use1 W (later (some (λ (r : Record). ((‵ (flft κ q) ⊛ ‵ (flft κ′ q′) ⊛ ‵ ftrue) ⊛ ‵ (S.the-row .own r (u′ ∷ []))) ⊛ raw
+        (ensured 𝓤 H A record-at.ended (record-at.clauses 𝓤 H A mem run) κs (d, (i, tt)) tt r)))) (id⊢ 𝓤 _) $ await ! tt $ pick ! (λ r.
         split ! $ move ! (1 ∷ []) $ use1 W (raw (fact 𝓤 (Through d i r))) (at-said d r) $ heard ! (Through d i r) (λ h. split ! $ move ! (1 ∷ []) $
         -- [the result; the tokens; the parameters; _5; …; _1; …; room for _0; …]
         peeks ! S.the-row (Is S.the-row) (shows 𝓤 H A S.the-row) r (u′ ∷ []) (λ is′.
@@ -193,13 +195,19 @@ module _ {M : Type 1} (𝓤 : URA M) (H : Heap 𝓤) (A : Atoms 𝓤) (W : Given
       → Walks 𝓤 H A record-of.ended stayed (WpFn 𝓤 H C Λ code.function) (record-of.clauses 𝓤 H A mem run)
   record-of-walks C Λ fm known-new known-at = walked 𝓤 H A record-of.ended stayed (record-of.clauses 𝓤 H A mem run) (WpFn 𝓤 H C Λ code.function) (λ κs. (slice-vals, (slice-vals, (uint-vals w64, (uint-vals w64, tt)))))
       (λ κs. (shr-slice-tells (named 0) (κs .0) u8, (shr-slice-tells (named 1) (κs .1 .0) u8, (uint-tells w64, (uint-tells w64, tt)))))
-      (λ κs qs bounds a g are. via 𝓤 _ (fst∗ 𝓤 _ (emp 𝓤)) (walk 𝓤 H A W mem run (κs .0) (κs .1 .0) (qs .0) (qs .1 .0) (a .0) (a .1 .0) (a .1 .1 .0) (a .1 .1 .1 .0) C Λ fm known-new known-at (are .0) (are .1 .0) (are .1 .1 .0 .1) (are .1 .1 .1 .0 .1)))
+      (λ κs qs bounds a g are. via 𝓤 _ (fst∗ 𝓤 _ (emp 𝓤)) (walk 𝓤 H A W mem run (κs .0) (κs .1 .0) (qs .0) (qs .1 .0) (a .0) (a .1 .0) (a .1 .1 .0) (a .1 .1 .1 .0) C Λ fm known-new known-at (are .0)
+      (are .1 .0) (are .1 .1 .0 .1) (are .1 .1 .1 .0 .1)))
 
 record-of-meets : {M : Type 1} (𝓤 : URA M) (H : Heap 𝓤) (A : Atoms 𝓤) (W : Given 𝓤 H A) (mem : Memory → SProp 𝓤) (run : Routine → Fun 𝓤) (𝓣 : Tables 𝓤 H)
     → Triple 𝓤 (𝓣 .C #reader-view·views·new) (New 𝓤 H A mem run) → Triple 𝓤 (𝓣 .C #reader-view·views·record-at) (At 𝓤 H A mem run)
     → Meets 𝓤 H A record-of.signature (WpFn 𝓤 H (𝓣 .C) (𝓣 .Λ) code.function) (record-of.spec 𝓤 H A mem run)
-record-of-meets 𝓤 H A W mem run 𝓣 known-new known-at = walk-meets 𝓤 H A record-of.ended stayed W
-    (goes-none-slice 𝓤 H A W 2 (0 ∷ []) tt (plain (λ _. u8)) yes, (goes-none-slice 𝓤 H A W 2 (1 ∷ []) tt (plain (λ _. u8)) yes, (goes-none 𝓤 H A W 2 (λ _. usize) yes (λ κs x f. refl), (goes-none 𝓤 H A W 2 (λ _. usize) yes (λ κs x f. refl), tt))))
+record-of-meets 𝓤 H A W mem run 𝓣 known-new known-at = walk-meets 𝓤 H A record-of.ended stayed W (
+  goes-none-slice 𝓤 H A W 2 (0 ∷ []) tt (plain (λ _. u8)) yes,
+  (
+    goes-none-slice 𝓤 H A W 2 (1 ∷ []) tt (plain (λ _. u8)) yes,
+    (goes-none 𝓤 H A W 2 (λ _. usize) yes (λ κs x f. refl), (goes-none 𝓤 H A W 2 (λ _. usize) yes (λ κs x f. refl), tt)),
+  ),
+)
     (record-of.clauses 𝓤 H A mem run) (WpFn 𝓤 H (𝓣 .C) (𝓣 .Λ) code.function) (WpFn-mono 𝓤 H (W .laws) 𝓣 code.function)
     (record-of-walks 𝓤 H A W mem run (𝓣 .C) (𝓣 .Λ) (fmOf 𝓤 H (W .laws) 𝓣) known-new known-at)
 

@@ -20,23 +20,41 @@ put-derivation-spec = tie.close (tie.spec
     (λ c κs.
     let p = c .before .before .before .before .before .before .before .before .before .before .pre in
     let f = c .before .before .before .fill-ends .ensures in (
-      room-ready _ _ _ (c .before .before .before .before .before .before .before .before .before .before .pre) _ _ (c .before .before .before .before .before .before .word-of .ensures) (c .before .before .before .before .before .word-of2 .ensures),
+      room-ready _ _ _ (c .before .before .before .before .before .before .before .before .before .before .pre) _ _ (c .before .before .before .before .before .before .word-of .ensures)
+          (c .before .before .before .before .before .word-of2 .ensures),
       omega (arith, p .whole, c .before .before .before .before .before .word-of2 .ensures),
       f .1,
       omega (arith, p .root, c .before .before .before .before .before .before .word-of .ensures, c .before .before .before .before .before .word-of2 .ensures),
       f .0,
     ))
     -- add-result: 1 buffer; 2 put-file; 3 put-file-arg; 4 ends3; 5 ends2; 6 fill-ends; 7 ends; 8 word-of2; 9 word-of; 13 args
-    (λ c. omega (arith, start-fits _ _ _ _ _ (room-ready _ _ _ (c .before .before .before .before .before .before .before .before .before .before .before .before .before .pre) _ _ (c .before .before .before .before .before .before .before .before .before .word-of .ensures) (c .before .before .before .before .before .before .before .before .word-of2 .ensures)) (c .before .before .before .before .before .before .fill-ends .ensures .0)))
+    (λ c. omega (
+      arith,
+      start-fits _ _ _ _ _ (room-ready _ _ _ (c .before .before .before .before .before .before .before .before .before .before .before .before .before .pre) _ _
+          (c .before .before .before .before .before .before .before .before .before .word-of .ensures) (c .before .before .before .before .before .before .before .before .word-of2 .ensures))
+          (c .before .before .before .before .before .before .fill-ends .ensures .0),
+    ))
     -- sub-result: 1 buffer; 2 put-file; 3 put-file-arg; 4 ends3; 5 ends2; 6 fill-ends; 7 ends; 8 word-of2; 9 word-of; 13 args
-    (λ c. omega (arith, start-fits _ _ _ _ _ (room-ready _ _ _ (c .before .before .before .before .before .before .before .before .before .before .before .before .before .pre) _ _ (c .before .before .before .before .before .before .before .before .before .word-of .ensures) (c .before .before .before .before .before .before .before .before .word-of2 .ensures)) (c .before .before .before .before .before .before .fill-ends .ensures .0)))
+    (λ c. omega (
+      arith,
+      start-fits _ _ _ _ _ (room-ready _ _ _ (c .before .before .before .before .before .before .before .before .before .before .before .before .before .pre) _ _
+          (c .before .before .before .before .before .before .before .before .before .word-of .ensures) (c .before .before .before .before .before .before .before .before .word-of2 .ensures))
+          (c .before .before .before .before .before .before .fill-ends .ensures .0),
+    ))
     -- mul-result: 1 buffer; 2 put-file; 3 put-file-arg; 4 ends3; 5 ends2; 6 fill-ends; 7 ends; 8 word-of2; 9 word-of; 13 args
-    (λ c. omega (arith, start-fits _ _ _ _ _ (room-ready _ _ _ (c .before .before .before .before .before .before .before .before .before .before .before .before .before .pre) _ _ (c .before .before .before .before .before .before .before .before .before .word-of .ensures) (c .before .before .before .before .before .before .before .before .word-of2 .ensures)) (c .before .before .before .before .before .before .fill-ends .ensures .0)))
+    (λ c. omega (
+      arith,
+      start-fits _ _ _ _ _ (room-ready _ _ _ (c .before .before .before .before .before .before .before .before .before .before .before .before .before .pre) _ _
+          (c .before .before .before .before .before .before .before .before .before .word-of .ensures) (c .before .before .before .before .before .before .before .before .word-of2 .ensures))
+          (c .before .before .before .before .before .before .fill-ends .ensures .0),
+    ))
     -- same-length: 1 buffer; 2 put-file; 3 put-file-arg; 4 ends3; 5 ends2; 6 fill-ends; 7 ends; 8 word-of2; 9 word-of; 13 args
     (λ c. search needs)
     -- returns: 1 buffer; 2 put-file; 3 put-file-arg; 4 ends3; 5 ends2; 6 fill-ends; 7 ends; 8 word-of2; 9 word-of; 13 args
     (λ c.
     let p = c .before .before .before .before .before .before .before .before .before .before .before .before .before .pre in (
-      written-is _ _ _ p _ _ (c .before .before .before .before .before .before .before .before .before .word-of .ensures) (c .before .before .before .before .before .before .before .before .word-of2 .ensures) _ (bytes-many _ _ _ _ (c .before .before .before .before .before .before .fill-ends .ensures .0)),
-      file-is _ _ _ p _ _ (c .before .before .before .before .before .before .before .before .before .word-of .ensures) (c .before .before .before .before .before .before .before .before .word-of2 .ensures) _ (c .before .before .put-file .ensures),
+      written-is _ _ _ p _ _ (c .before .before .before .before .before .before .before .before .before .word-of .ensures)
+          (c .before .before .before .before .before .before .before .before .word-of2 .ensures) _ (bytes-many _ _ _ _ (c .before .before .before .before .before .before .fill-ends .ensures .0)),
+      file-is _ _ _ p _ _ (c .before .before .before .before .before .before .before .before .before .word-of .ensures)
+          (c .before .before .before .before .before .before .before .before .word-of2 .ensures) _ (c .before .before .put-file .ensures),
     )))

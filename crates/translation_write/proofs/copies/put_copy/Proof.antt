@@ -17,11 +17,13 @@ put-copy-spec = tie.close (tie.spec
     (λ c. search needs)
     -- returns: 1 buffer; 2 put-record; 3 put-record-arg; 4 if1; 5 is-rule; 6 word-at; 10 args
     (λ c.
-    copy-rule _ _ _ _ _ _ (c .before .before .before .before .before .before .word-at .ensures) (c .before .before .before .before .before .is-rule .ensures) _ _ (c .before .before .before .before .if1 .taken) (c .before .before .put-record .ensures))
+    copy-rule _ _ _ _ _ _ (c .before .before .before .before .before .before .word-at .ensures) (c .before .before .before .before .before .is-rule .ensures) _ _
+    (c .before .before .before .before .if1 .taken) (c .before .before .put-record .ensures))
     -- copy-record-requires: copy-record-arg; 1 if1; 2 is-rule; 3 word-at; 7 args
     (λ c κs. search needs)
     -- same-length-2: 1 buffer2; 2 copy-record; 3 copy-record-arg; 4 if1; 5 is-rule; 6 word-at; 10 args
     (λ c. search needs)
     -- returns-2: 1 buffer2; 2 copy-record; 3 copy-record-arg; 4 if1; 5 is-rule; 6 word-at; 10 args
     (λ c.
-    copy-other _ _ _ _ _ _ (c .before .before .before .before .before .before .word-at .ensures) (c .before .before .before .before .before .is-rule .ensures) _ _ (c .before .before .before .before .if1 .left) (c .before .before .copy-record .ensures)))
+    copy-other _ _ _ _ _ _ (c .before .before .before .before .before .before .word-at .ensures) (c .before .before .before .before .before .is-rule .ensures) _ _
+    (c .before .before .before .before .if1 .left) (c .before .before .copy-record .ensures)))
