@@ -1,7 +1,8 @@
 -- Laws of tests and choices: each is one way out of code that makes them.
-use Prim.Native.Nat.{ℕ, _<_, _≤_}
+use Prim.Native.Nat.{ℕ, zero, suc, _+_, _<_, _≤_}
 use mathlib.Core.Path.{_≡_, sym, _∙_}
 use mathlib.Core.Bool.{Bool, true, false, not}
+use native.Mathlib.Omega.{arith}
 use borrow.Author.Tests.{eq-eqb, ne-eqb, lt-ltb, le-ltb, not-true, not-false}
 use Rattle.reader.specs.Tests.{both, demand, orElse, ifEq, ifLt, ifTrue}
 
@@ -85,3 +86,12 @@ module _ {A : Type 0} (a b : ℕ) (x y r : A) (p : ℕ) (ep : p ≡ a) where
   lt-no-of h e = lt-no a b x y r (rw (← ep) h) e
 
 pub ruleset ifs-of = (eq-yes-of, eq-no-of, lt-yes-of, lt-no-of)
+
+-- What the last arm, `_`, of a `match` knows whose arms before it are a, a + 1 and so on, n of them: k is none of these.
+abbrev pub Rest : ℕ → ℕ → ℕ → Type 0
+Rest a k zero = Unit
+Rest a k (suc n) = Rest a k n × (k ≡ a + n → ⊥)
+
+pub rest-past : (a k n : ℕ) → a ≤ k → Rest a k n → a + n ≤ k
+rest-past a k zero h rest = omega arith
+rest-past a k (suc n) h rest = omega (arith, rest-past a k n h (rest .0), rest .1)

@@ -3,160 +3,67 @@ use crate::tests::is_between;
 use crate::words;
 ghost use mathlib.Core.Path.{_≡_};
 ghost use Rattle.reader.specs.Words.{word};
+ghost use Rattle.reader.specs.KindLaws.{unpacked};
 ghost use Rattle.reader.specs.Kinds.{layout, class, role, kindAt, classAt, roleAt, isRule, isKind, isNumber, isSymbol};
 
-// The columns of the table, by kind.
-const CLASSES: [u8; 23] = [
-    0,
-    1,
-    2,
-    3,
-    3,
-    3,
-    3,
-    4,
-    6,
-    4,
-    4,
-    4,
-    4,
-    4,
-    5,
-    5,
-    5,
-    5,
-    5,
-    5,
-    5,
-    5,
-    7,
-];
-
-const FIRST: [u8; 23] = [
-    0,
-    10,
-    1,
-    6,
-    12,
-    12,
-    2,
-    12,
-    9,
-    4,
-    13,
-    13,
-    13,
-    15,
-    0,
-    0,
-    14,
-    14,
-    14,
-    12,
-    13,
-    13,
-    5,
-];
-
-const SECOND: [u8; 23] = [
-    0,
-    0,
-    1,
-    0,
-    0,
-    12,
-    0,
-    6,
-    3,
-    12,
-    13,
-    13,
-    12,
-    16,
-    0,
-    0,
-    14,
-    14,
-    0,
-    14,
-    13,
-    13,
-    14,
-];
-
-const THIRD: [u8; 23] = [
-    0,
-    11,
-    7,
-    0,
-    0,
-    0,
-    0,
-    0,
-    6,
-    0,
-    12,
-    12,
-    0,
-    17,
-    0,
-    0,
-    0,
-    0,
-    0,
-    0,
-    0,
-    0,
-    0,
-];
+// The row of kind k, two hexadecimal digits each for its class and the roles of its words 1 to 3. A `match`, as the compiler would write a `const` array to the
+// stack at each use.
+fn row_of(k: usize) -> u32
+    ensures { λ r. ⌜ unpacked r ≡ layout k ⌝ }
+{
+    match k {
+        1 => 0x01_0a_00_0b, // link: any record, the next link
+        2 => 0x02_01_01_07, // name: bytes, bytes, the next name record
+        3 => 0x03_06_00_00, // given type: name
+        4 => 0x03_0c_00_00, // set type: type
+        5 => 0x03_0c_0c_00, // pair type: type, type
+        6 => 0x03_02_00_00, // type variable: 0 to 3
+        7 => 0x04_0c_06_00, // constant: type, name
+        8 => 0x06_09_03_06, // function: chain of types, 0 to 4, name
+        9 => 0x04_04_0c_00, // bound variable: 0 to 63, type
+        10 => 0x04_0d_0d_0c, // pair: term, term, type
+        11 => 0x04_0d_0d_0c, // product: term, term, type
+        12 => 0x04_0d_0c_00, // powerset: term, type
+        13 => 0x04_0f_10_11, // application: function, chain of types, chain of terms
+        14 => 0x05_00_00_00, // ⊥
+        15 => 0x05_00_00_00, // ⊤
+        16 => 0x05_0e_0e_00, // ∧: formula, formula
+        17 => 0x05_0e_0e_00, // ⇒: formula, formula
+        18 => 0x05_0e_00_00, // ¬: formula
+        19 => 0x05_0c_0e_00, // ∀: type, formula
+        20 => 0x05_0d_0d_00, // =: term, term
+        21 => 0x05_0d_0d_00, // ∈: term, term
+        22 => 0x07_05_0e_00, // for all types: 1 to 4, formula
+        _ => if 32 <= k { 0x00_08_08_00 } else { 0 }, // rule node: chain of parts, chain of premises
+    }
+}
 
 // The class of a record of kind k.
 pub fn class_of(k: usize) -> u8
     ensures { λ r. ⌜ r ≡ class k ⌝ }
 {
-    if 23 <= k {
-        return 0;
-    }
-    CLASSES[k]
+    (row_of(k) / 0x1000000) as u8
 }
 
 // The role of word 1 of a record of kind k.
 fn first_role(k: usize) -> u8
     ensures { λ r. ⌜ r ≡ layout k .first ⌝ }
 {
-    if 32 <= k {
-        return 8;
-    }
-    if 23 <= k {
-        return 0;
-    }
-    FIRST[k]
+    (row_of(k) / 0x10000 % 0x100) as u8
 }
 
 // The role of word 2 of a record of kind k.
 fn second_role(k: usize) -> u8
     ensures { λ r. ⌜ r ≡ layout k .second ⌝ }
 {
-    if 32 <= k {
-        return 8;
-    }
-    if 23 <= k {
-        return 0;
-    }
-    SECOND[k]
+    (row_of(k) / 0x100 % 0x100) as u8
 }
 
 // The role of word 3 of a record of kind k.
 fn third_role(k: usize) -> u8
     ensures { λ r. ⌜ r ≡ layout k .third ⌝ }
 {
-    if 32 <= k {
-        return 0;
-    }
-    if 23 <= k {
-        return 0;
-    }
-    THIRD[k]
+    (row_of(k) % 0x100) as u8
 }
 
 // The role of word w of a record of kind k.
