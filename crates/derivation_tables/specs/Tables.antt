@@ -1,13 +1,14 @@
 -- What the rules 64 to 80 ask and make, as a table of numbers, and that the rows say the same.
-use Prim.Native.Nat.{ℕ, _+_, _*_, _-_, _/_, _%_, _<_, _≤_}
-use mathlib.Core.Path.{_≡_, refl, _∙_}
+use Prim.Native.Nat.{ℕ, zero, suc, _+_, _*_, _-_, _/_, _%_, _<_, _≤_}
+use mathlib.Core.Path.{_≡_, refl, sym, ap, _∙_}
 use mathlib.Core.List.{List, [], _∷_, _++_}
 use mathlib.Core.Bool.{Bool, true, false}
-use lib.Dec.{ltb}
-use lib.ListN.{getD, set, length}
-use lib.Seq.{getD-set-other}
-use borrow.Author.Tests.{lt-ltb, le-ltb, ltb-true, ltb-false}
+use lib.Dec.{eqb, ltb}
+use lib.ListN.{getD, length, drop}
+use native.Mathlib.Omega.{arith}
+use borrow.Author.Tests.{eqb-true, eqb-false, lt-ltb, ltb-true, ltb-false}
 use Rattle.reader.specs.Tests.{ifEq, ifLt}
+use Rattle.reader.specs.TestLaws.{Rest, rest-past}
 use Rattle.reader.specs.Down.{iter, down}
 use Rattle.reader.specs.Trees.{Tree, same, firstOf, secondOf, ¬ᵗ_}
 use Rattle.reader.specs.Shapes.{Shape}
@@ -123,25 +124,79 @@ module _ (ps : List Tree) (st : State) where
       (λ h. refl) (λ h. absurd (h refl)) (λ h. refl) (λ h. refl) (λ h. refl) (λ h. refl) (λ h. refl) (λ h. refl) (λ h. refl) (λ h. refl) (λ h. refl) (λ h. refl) (λ h. refl) (λ h. refl) (λ h. refl) (λ h. refl) (λ h. refl)
       (λ k other h. rw (row-none k ps st other, column-none k 4 other) refl)
 
--- the entries that are bytes, and 0 for the three others
-abbrev pub bytes : List ℕ
-bytes = set (set (set rules 182 0) 196 0) 210 0
+-- The ways out of the code that has the table's columns packed in numbers.
 
--- The ways out of the code that reads the table.
-pub entry-byte : (i : ℕ) → (i ≡ 182 → ⊥) → (i ≡ 196 → ⊥) → (i ≡ 210 → ⊥) → (r : ℕ) → r ≡ getD bytes i 0 → r ≡ getD rules i 0
-entry-byte i p q r v e =
-    e ∙ getD-set-other (set (set rules 182 0) 196 0) 210 i 0 0 r ∙ getD-set-other (set rules 182 0) 196 i 0 0 q ∙ getD-set-other rules 182 i 0 0 p
+-- the two hexadecimal digits of n that have 2 j digits after them
+unfoldable pub digit : ℕ → ℕ → ℕ
+digit n zero = n % 256
+digit n (suc j) = digit (n / 256) j
 
-module _ (k w : ℕ) where
-  pub column-low : k < 64 → 0 ≡ column k w
-  unfolding column ifLt
-  column-low h = simp (column, ifLt, lt-ltb k 64 h)
+pub digit-last : (n j : ℕ) → j ≡ 0 → n % 256 ≡ digit n j
+unfolding digit
+digit-last n j h = rw h refl
 
-  module _ (low : 64 ≤ k) where
-    pub column-high : 80 < k → 0 ≡ column k w
-    unfolding column ifLt
-    column-high h = simp (column, ifLt, le-ltb k 64 low, lt-ltb 80 k h)
+pub digit-more : (n j r : ℕ) → (j ≡ 0 → ⊥) → r ≡ digit (n / 256) (j - 1) → r ≡ digit n j
+unfolding digit
+digit-more n zero r h e = absurd (h refl)
+digit-more n (suc j) r h e = let less : suc j - 1 ≡ j = omega arith in e ∙ ap (digit (n / 256)) less
 
-    pub column-rule : k ≤ 80 → (r : ℕ) → r ≡ getD rules (14 * (k - 64) + w) 0 → r ≡ column k w
-    unfolding column ifLt
-    column-rule h r e = simp (column, ifLt, le-ltb k 64 low, le-ltb 80 k h) e
+-- c of them, down to the last
+unfoldable pub digits : ℕ → ℕ → List ℕ
+digits n zero = []
+digits n (suc c) = digit n c ∷ digits n c
+
+-- c columns of rule k, from column a on
+unfoldable pub columns : ℕ → ℕ → ℕ → List ℕ
+columns k a zero = []
+columns k a (suc c) = column k a ∷ columns k (a + 1) c
+
+-- a number that has c columns, from column a on, has column w
+pub column-at : (k n a c : ℕ) → digits n c ≡ columns k a c → (w : ℕ) → a ≤ w → w < a + c → digit n (a + c - 1 - w) ≡ column k w
+unfolding digits columns
+column-at k n a zero e w low high = absurd (omega arith)
+column-at k n a (suc c) e w low high = go (eqb w a) refl (column-at k n (a + 1) c (ap (drop 1) e) w)
+  where
+    last : a + suc c - 1 - a ≡ c
+    last = omega arith
+
+    later : a + 1 + c - 1 - w ≡ a + suc c - 1 - w
+    later = omega arith
+
+    go : (b : Bool) → eqb w a ≡ b → (a + 1 ≤ w → w < a + 1 + c → digit n (a + 1 + c - 1 - w) ≡ column k w) → digit n (a + suc c - 1 - w) ≡ column k w
+    go true t more = rw (eqb-true w a t, last) (ap (λ (l : List ℕ). getD l 0 0) e)
+    go false t more =
+        let other : w ≡ a → ⊥ = eqb-false w a t in
+        rw (← later) (more (omega arith) (omega arith))
+
+-- the last arm: no rule has no columns
+module _ (k : ℕ) (rest : Rest 64 k 17) where
+  no-rule : NoRule k
+  no-rule j low high same = omega (arith, rest-past 64 k 17 (omega arith) rest)
+
+  pub shapes-rest : 0 ≡ column k 0
+  shapes-rest = sym (column-none k 0 no-rule)
+
+  pub front-rest : digits 0 7 ≡ columns k 1 7
+  unfolding digits columns digit
+  front-rest =
+      rw (
+        column-none k 1 no-rule,
+        column-none k 2 no-rule,
+        column-none k 3 no-rule,
+        column-none k 4 no-rule,
+        column-none k 5 no-rule,
+        column-none k 6 no-rule,
+        column-none k 7 no-rule,
+      )
+
+  pub back-rest : digits 0 6 ≡ columns k 8 6
+  unfolding digits columns digit
+  back-rest =
+      rw (
+        column-none k 8 no-rule,
+        column-none k 9 no-rule,
+        column-none k 10 no-rule,
+        column-none k 11 no-rule,
+        column-none k 12 no-rule,
+        column-none k 13 no-rule,
+      )

@@ -1,277 +1,99 @@
 // What the rules 64 to 80 ask and make, as a table.
 ghost use mathlib.Core.Path.{_≡_};
 ghost use Prim.Native.Nat.{_<_};
-ghost use lib.ListN.{getD};
-ghost use Rattle.derivation_tables.specs.Tables.{rules, bytes, column};
+ghost use Rattle.derivation_tables.specs.Tables.{digit, digits, columns, column};
 
 // Fourteen columns a rule: 0 shapes of the parts; 1 shape of the goal; 2 number of premises; 3 form needed in the sequent;
 // 4 and 5 goal of premise 0 and the member that it adds; 6 and 7 the same of premise 1; 8 and 9 two forms that are equal;
 // 10 to 12 three forms, of which the first is the third with the second in place of index 0; 13 the most members that a premise adds.
-// Three numbers are no bytes: `rule_entry` has them.
-const RULES: [u8; 238] = [
-    0,
-    0,
-    0,
-    4,
-    0,
-    0,
-    0,
-    0,
-    0,
-    0,
-    0,
-    0,
-    0,
-    0,
-    0,
-    0,
-    1,
-    0,
-    4,
-    0,
-    0,
-    0,
-    0,
-    0,
-    0,
-    0,
-    0,
-    0,
-    0,
-    0,
-    0,
-    4,
-    0,
-    0,
-    0,
-    0,
-    0,
-    0,
-    0,
-    0,
-    0,
-    0,
-    37,
-    0,
-    2,
-    0,
-    8,
-    0,
-    4,
-    8,
-    0,
-    0,
-    0,
-    0,
-    0,
-    1,
-    0,
-    78,
-    0,
-    0,
-    0,
-    0,
-    0,
-    0,
-    0,
-    0,
-    0,
-    0,
-    0,
-    0,
-    17,
-    0,
-    2,
-    0,
-    9,
-    0,
-    8,
-    0,
-    10,
-    4,
-    0,
-    0,
-    0,
-    0,
-    0,
-    16,
-    2,
-    0,
-    5,
-    0,
-    6,
-    0,
-    0,
-    0,
-    0,
-    0,
-    0,
-    0,
-    16,
-    0,
-    1,
-    0,
-    8,
-    0,
-    0,
-    0,
-    9,
-    4,
-    0,
-    0,
-    0,
-    0,
-    16,
-    0,
-    1,
-    0,
-    8,
-    0,
-    0,
-    0,
-    10,
-    4,
-    0,
-    0,
-    0,
-    0,
-    0,
-    17,
-    1,
-    0,
-    6,
-    5,
-    0,
-    0,
-    0,
-    0,
-    0,
-    0,
-    0,
-    1,
-    17,
-    0,
-    1,
-    9,
-    8,
-    0,
-    0,
-    0,
-    10,
-    4,
-    0,
-    0,
-    0,
-    0,
-    37,
-    0,
-    2,
-    0,
-    8,
-    7,
-    11,
-    7,
-    0,
-    0,
-    0,
-    0,
-    0,
-    1,
-    37,
-    18,
-    2,
-    0,
-    8,
-    5,
-    11,
-    5,
-    0,
-    0,
-    0,
-    0,
-    0,
-    1,
-    0,
-    19,
-    1,
-    0,
-    12,
-    0,
-    0,
-    0,
-    0,
-    0,
-    12,
-    8,
-    6,
-    0,
-    0,
-    0,
-    1,
-    0,
-    8,
-    0,
-    0,
-    0,
-    0,
-    0,
-    4,
-    12,
-    10,
-    0,
-    0,
-    0,
-    2,
-    0,
-    12,
-    0,
-    16,
-    0,
-    0,
-    0,
-    16,
-    13,
-    8,
-    0,
-    0,
-    20,
-    0,
-    0,
-    0,
-    0,
-    0,
-    0,
-    5,
-    6,
-    0,
-    0,
-    0,
-    0,
-];
+// Each is a `match`, as the compiler would write a `const` array to the stack at each use.
 
-// Entry i where it is a byte, and else 0.
-fn rule_byte(i: usize) -> u8
-    requires { ⌜ i < 238 ⌝ }
-    ensures { λ r. ⌜ r ≡ getD bytes i 0 ⌝ }
+// Column 0 of rule k.
+fn shapes(k: usize) -> usize
+    ensures { λ r. ⌜ r ≡ column k 0 ⌝ }
 {
-    RULES[i]
+    match k {
+        64 => 0, // BR1
+        65 => 0, // BR2
+        66 => 0, // BR3
+        67 => 37, // BR4
+        68 => 0, // BR6
+        69 => 17, // MP
+        70 => 0, // R1
+        71 => 16, // R2
+        72 => 16, // R2'
+        73 => 0, // R3
+        74 => 17, // R4
+        75 => 37, // R5
+        76 => 37, // R6
+        77 => 9479, // R7
+        78 => 9235, // R8
+        79 => 2429989, // R9
+        80 => 0, // R10
+        _ => 0,
+    }
 }
 
-// Entry i of the table.
-fn rule_entry(i: usize) -> usize
-    requires { ⌜ i < 238 ⌝ }
-    ensures { λ r. ⌜ r ≡ getD rules i 0 ⌝ }
+// Columns 1 to 7 of rule k, two hexadecimal digits each.
+fn front(k: usize) -> usize
+    ensures { λ r. ⌜ digits r 7 ≡ columns k 1 7 ⌝ }
 {
-    if i == 182 {
-        return 9479;
+    match k {
+        64 => 0x00_00_04_00_00_00_00, // BR1
+        65 => 0x00_01_00_04_00_00_00, // BR2
+        66 => 0x00_00_04_00_00_00_00, // BR3
+        67 => 0x00_02_00_08_00_04_08, // BR4
+        68 => 0x4e_00_00_00_00_00_00, // BR6
+        69 => 0x00_02_00_09_00_08_00, // MP
+        70 => 0x10_02_00_05_00_06_00, // R1
+        71 => 0x00_01_00_08_00_00_00, // R2
+        72 => 0x00_01_00_08_00_00_00, // R2'
+        73 => 0x11_01_00_06_05_00_00, // R3
+        74 => 0x00_01_09_08_00_00_00, // R4
+        75 => 0x00_02_00_08_07_0b_07, // R5
+        76 => 0x12_02_00_08_05_0b_05, // R6
+        77 => 0x13_01_00_0c_00_00_00, // R7
+        78 => 0x00_01_00_08_00_00_00, // R8
+        79 => 0x00_02_00_0c_00_10_00, // R9
+        80 => 0x14_00_00_00_00_00_00, // R10
+        _ => 0,
     }
-    if i == 196 {
-        return 9235;
+}
+
+// Columns 8 to 13 of rule k, two hexadecimal digits each.
+fn back(k: usize) -> usize
+    ensures { λ r. ⌜ digits r 6 ≡ columns k 8 6 ⌝ }
+{
+    match k {
+        64 => 0x00_00_00_00_00_00, // BR1
+        65 => 0x00_00_00_00_00_00, // BR2
+        66 => 0x00_00_00_00_00_00, // BR3
+        67 => 0x00_00_00_00_00_01, // BR4
+        68 => 0x00_00_00_00_00_00, // BR6
+        69 => 0x0a_04_00_00_00_00, // MP
+        70 => 0x00_00_00_00_00_00, // R1
+        71 => 0x09_04_00_00_00_00, // R2
+        72 => 0x0a_04_00_00_00_00, // R2'
+        73 => 0x00_00_00_00_00_01, // R3
+        74 => 0x0a_04_00_00_00_00, // R4
+        75 => 0x00_00_00_00_00_01, // R5
+        76 => 0x00_00_00_00_00_01, // R6
+        77 => 0x00_00_0c_08_06_00, // R7
+        78 => 0x00_00_04_0c_0a_00, // R8
+        79 => 0x00_00_10_0d_08_00, // R9
+        80 => 0x05_06_00_00_00_00, // R10
+        _ => 0,
     }
-    if i == 210 {
-        return 2429989;
+}
+
+// The two hexadecimal digits of n that have 2 j digits after them.
+fn digit(n: usize, j: usize) -> usize
+    ensures { λ r. ⌜ r ≡ digit n j ⌝ }
+{
+    if j == 0 {
+        return n % 0x100;
     }
-    rule_byte(i) as usize
+    digit(n / 0x100, j - 1)
 }
 
 // Column w of rule k, 0 for no rule.
@@ -279,11 +101,11 @@ pub fn column(k: usize, w: usize) -> usize
     requires { ⌜ w < 14 ⌝ }
     ensures { λ r. ⌜ r ≡ column k w ⌝ }
 {
-    if k < 64 {
-        return 0;
+    if w == 0 {
+        return shapes(k);
     }
-    if 80 < k {
-        return 0;
+    if w < 8 {
+        return digit(front(k), 7 - w);
     }
-    rule_entry(14 * (k - 64) + w)
+    digit(back(k), 13 - w)
 }
