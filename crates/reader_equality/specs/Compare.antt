@@ -10,8 +10,10 @@ use lib.ListN.{getD}
 use native.Mathlib.Omega.{arith}
 use borrow.Author.Tests.{eqb-true, eqb-false, eq-eqb, ne-eqb, ltb-true, lt-ltb, le-ltb}
 use Rattle.reader_equality.specs.Least.{Numbered, numbers-same}
-use Rattle.reader_equality.specs.Keys.{partAt, partEntry, keyFrom, sameKey, same-key-equal, same-key-self, part-below, part-child}
+use Rattle.reader_equality.specs.Keys.{partAt, partEntry, keyFrom, sameKey, same-key-equal, same-key-self, part-below, part-child, atomIn, partIn, atom-in, part-in, part-in-below}
 use Rattle.reader.specs.Words.{Reader}
+use Rattle.reader_view.specs.declared.Record.{Record}
+use Rattle.reader_view.specs.Records.{RecordIs}
 use Rattle.reader.specs.Tests.{both, ifEq, ifTrue}
 use Rattle.reader.specs.DownLaws.{Local, down-zero, down-step}
 use Rattle.reader.specs.Down.{down}
@@ -63,6 +65,11 @@ sameFrom rd types table n = down (sameWith rd types table n 0 (λ j. false) (λ 
 unfoldable pub samePart : Reader → Bool → List ℕ → ℕ → ℕ → ℕ → ℕ → Bool
 samePart rd types table n i j w = sameFrom rd types table n (partAt rd types i w) (partAt rd types j w)
 
+-- records i and j have one kind, one atom and equal parts
+unfoldable pub sameRecords : Reader → Bool → List ℕ → ℕ → ℕ → ℕ → Bool
+sameRecords rd types table n i j =
+    both (sameHeadAt rd i j) (both (samePart rd types table n i j 1) (both (samePart rd types table n i j 2) (samePart rd types table n i j 3)))
+
 module _ (rd : Reader) (types : Bool) (table : List ℕ) (n : ℕ) where
   same-local : Local (sameStep rd types table n)
   unfolding sameStep
@@ -70,8 +77,8 @@ module _ (rd : Reader) (types : Bool) (table : List ℕ) (n : ℕ) where
 
   from-step : (i j : ℕ) → sameFrom rd types table n i j ≡
       ifEq i j true (ifTrue (hasBoth n i j) (eqb (getD table i 0) (getD table j 0)) (ifEq i 0 false (ifEq j 0 false
-      (both (sameHeadAt rd i j) (both (samePart rd types table n i j 1) (both (samePart rd types table n i j 2) (samePart rd types table n i j 3)))))))
-  unfolding sameFrom samePart sameStep sameWith ifEq
+      (sameRecords rd types table n i j))))
+  unfolding sameFrom sameRecords samePart sameStep sameWith ifEq
   from-step zero j = ap (λ (f : ℕ → Bool). f j) (down-zero (sameWith rd types table n 0 (λ j. false) (λ j. false) (λ j. false)) (sameStep rd types table n))
   from-step (suc i) j =
       ap (λ (f : ℕ → Bool). f j) (down-step (sameWith rd types table n 0 (λ j. false) (λ j. false) (λ j. false)) (sameStep rd types table n) same-local (suc i) (omega arith))
@@ -97,14 +104,34 @@ module _ (rd : Reader) (types : Bool) (table : List ℕ) (n : ℕ) where
           unfolding ifEq ifTrue
           from-second-none z = rw (from-step i j) (simp (ifEq, ifTrue, ne-eqb i j other, ← eh, out, ne-eqb i 0 p, eq-eqb j 0 z))
 
-          pub from-parts : (j ≡ 0 → ⊥) → (r : Bool) → r ≡ both (sameHeadAt rd i j) (both (samePart rd types table n i j 1) (both (samePart rd types table n i j 2) (samePart rd types table n i j 3))) →
-              r ≡ sameFrom rd types table n i j
+          pub from-parts : (j ≡ 0 → ⊥) → (r : Bool) → r ≡ sameRecords rd types table n i j → r ≡ sameFrom rd types table n i j
           unfolding ifEq ifTrue
           from-parts q r e = rw (from-step i j) (simp (ifEq, ifTrue, ne-eqb i j other, ← eh, out, ne-eqb i 0 p, ne-eqb j 0 q) e)
 
-  pub part-same : (i j w x y : ℕ) (r : Bool) → x ≡ partAt rd types i w → y ≡ partAt rd types j w → r ≡ sameFrom rd types table n x y → r ≡ samePart rd types table n i j w
-  unfolding samePart
-  part-same i j w x y r p q e = rw (← p, ← q) e
+  -- The ways out of `same_records`, which has the words of records i and j.
+  module _ (i j : ℕ) (x y : Record) (ex : RecordIs rd i x) (ey : RecordIs rd j y) where
+    pub records-kinds : (x .kind ≡ y .kind → ⊥) → false ≡ sameRecords rd types table n i j
+    unfolding sameRecords sameHeadAt sameHead both
+    records-kinds h = simp (both, sameHead, ← ex .kind-is, ← ey .kind-is, ne-eqb (x .kind) (y .kind) h)
+
+    module _ (one : x .kind ≡ y .kind) (p q : ℕ) (ep : p ≡ atomIn i x) (eq : q ≡ atomIn j y) where
+      head-is : sameHeadAt rd i j ≡ eqb p q
+      unfolding sameHeadAt sameHead
+      head-is = simp (sameHead, ← ex .kind-is, ← ey .kind-is, eq-eqb (x .kind) (y .kind) one, ← atom-in rd i x ex, ← atom-in rd j y ey, ← ep, ← eq)
+
+      pub records-atoms : (p ≡ q → ⊥) → false ≡ sameRecords rd types table n i j
+      unfolding sameRecords both
+      records-atoms h = rw head-is (simp (both, ne-eqb p q h))
+
+      pub records-parts : p ≡ q → (r : Bool) → r ≡ both (samePart rd types table n i j 1) (both (samePart rd types table n i j 2) (samePart rd types table n i j 3)) →
+          r ≡ sameRecords rd types table n i j
+      unfolding sameRecords both
+      records-parts h r e = rw head-is (simp (both, eq-eqb p q h) e)
+
+    module _ (w : ℕ) (low : w < 4) (a b : ℕ) (ea : a ≡ partIn types i x w) (eb : b ≡ partIn types j y w) where
+      pub part-same : (r : Bool) → r ≡ sameFrom rd types table n a b → r ≡ samePart rd types table n i j w
+      unfolding samePart
+      part-same r e = rw (← part-in rd i x ex types w low, ← part-in rd j y ey types w low, ← ea, ← eb) e
 
   -- two records that the table has
   from-low : (i j : ℕ) → i < n → j < n → sameFrom rd types table n i j ≡ eqb (getD table i 0) (getD table j 0)
@@ -115,15 +142,15 @@ module _ (rd : Reader) (types : Bool) (table : List ℕ) (n : ℕ) where
       go true e = let one : i ≡ j = eqb-true i j e in sym (from-one i j one) ∙ rw one (sym (eq-eqb (getD table j 0) (getD table j 0) refl))
       go false e = sym (from-known i j (eqb-false i j e) true (simp (hasBoth, both, lt-ltb i n p, lt-ltb j n q)) refl _ _ refl refl)
 
--- from a record to a part, where the measure is twice the record's number, and one more at the callee
-pub part-falls : (rd : Reader) (types : Bool) (i w x t : ℕ) → 2 * i ≡ t → 0 < i → x ≡ partAt rd types i w → 2 * x + 1 < t
-part-falls rd types i w x t e p q = omega (arith, part-below rd types i w p)
+-- from a record to a part, where the measure is three times the record's number and 1, and at the callee 3 more than three times
+pub part-falls : (types : Bool) (i : ℕ) (x : Record) (w a t : ℕ) → 3 * i + 1 ≡ t → 0 < i → a ≡ partIn types i x w → 3 * a + 3 < t
+part-falls types i x w a t e p q = omega (arith, part-in-below types i x w p)
 
 -- By a table of numbers, and with types, it is equality of trees.
 module _ (rd : Reader) (table : List ℕ) (n : ℕ) (t : Numbered rd table n) where
   parts-same : (i j : ℕ) → (i ≡ 0 → ⊥) → (j ≡ 0 → ⊥) → ((x : ℕ) → x < i → (y : ℕ) → sameFrom rd true table n x y ≡ same (tree rd x) (tree rd y)) →
-      both (sameHeadAt rd i j) (both (samePart rd true table n i j 1) (both (samePart rd true table n i j 2) (samePart rd true table n i j 3))) ≡ same (tree rd i) (tree rd j)
-  unfolding samePart sameChild
+      sameRecords rd true table n i j ≡ same (tree rd i) (tree rd j)
+  unfolding sameRecords samePart sameChild
   parts-same i j p q sub =
       let part : (w : ℕ) → samePart rd true table n i j w ≡ sameChild rd i j w =
       λ w. sub (partAt rd true i w) (part-below rd true i w (omega arith)) (partAt rd true j w) ∙ rw (part-child rd i w, part-child rd j w) refl in
@@ -173,7 +200,7 @@ module _ (rd : Reader) (types : Bool) (table : List ℕ) (i j : ℕ) (p : 0 < j)
       from-low rd types table i (partAt rd types j w) (partAt rd types i w) (omega (arith, part-below rd types j w p)) (part-below rd types i w (omega arith))
 
   from-key : sameFrom rd types table i j i ≡ sameKey (keyFrom rd types table j) (keyFrom rd types table i)
-  unfolding hasBoth both sameHeadAt sameKey keyFrom
+  unfolding sameRecords hasBoth both sameHeadAt sameKey keyFrom
   from-key =
       sym (from-parts rd types table i j i (λ e. omega arith) false (simp (hasBoth, both, lt-ltb j i low, le-ltb i i (omega arith))) refl (λ e. omega arith) (λ e. omega arith) _ refl)
       ∙ rw (key-part 1, key-part 2, key-part 3)

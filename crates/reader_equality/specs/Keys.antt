@@ -4,19 +4,20 @@ use Prim.Native.Nat.{ℕ, _+_, _*_, _/_, _%_, _<_, _≤_}
 use mathlib.Core.Path.{_≡_, refl, sym, ap, _∙_}
 use mathlib.Core.List.{List}
 use mathlib.Core.Bool.{Bool, true, false, not, false≢true}
-use lib.Dec.{eqb, ltb}
+use lib.Dec.{eqb, ltb, lit<}
 use lib.ListN.{length, getD, set}
 use lib.Seq.{getD-set-other}
 use native.Mathlib.Omega.{arith}
-use borrow.Author.Tests.{eqb-true, eq-eqb, not-true, not-false}
+use borrow.Author.Tests.{eqb-true, eq-eqb, ltb-true, lt-ltb, le-ltb, not-true, not-false}
 use Rattle.reader_equality.specs.declared.Key.{Key}
 use Rattle.reader_equality.specs.Least.{least, least-equal, least-one, Numbered}
 use Rattle.reader.specs.Words.{Reader}
+use Rattle.reader_view.specs.declared.Record.{Record}
+use Rattle.reader_view.specs.Records.{RecordIs, wordIn, word-in}
 use Rattle.reader.specs.Tests.{ifEq, ifLt, ifTrue}
 use Rattle.reader.specs.Kinds.{role, isSymbol, isNumber, roleAt}
 use Rattle.reader.specs.Trees.{lower, child, atom, tree}
 use Rattle.reader.specs.TreeLaws.{tree-step, lower-below, child-below}
-use Rattle.reader.specs.SameLaws.{atom-symbol, atom-number, atom-none}
 
 abbrev pub key : ℕ → ℕ → ℕ → ℕ → ℕ → Key
 key k a x y z = record { kind = k; atom = a; first = x; second = y; third = z }
@@ -159,21 +160,63 @@ pub side-small : (k : Key) (b : ℕ) → b ≡ sideOf k → b < 2
 unfolding sideOf
 side-small k b e = omega arith
 
+-- The same by the record's words.
+unfoldable pub atomIn : ℕ → Record → ℕ
+atomIn i x = ifTrue (isSymbol (x .kind)) i (ifTrue (isNumber (role (x .kind) 1)) (x .a) 0)
+
+unfoldable pub partIn : Bool → ℕ → Record → ℕ → ℕ
+partIn types i x w = ifTrue (isPart types (role (x .kind) w)) (ifLt (wordIn x w) i (wordIn x w) 0) 0
+
+module _ (rd : Reader) (i : ℕ) (x : Record) (e : RecordIs rd i x) where
+  pub atom-in : atomIn i x ≡ atom rd i
+  unfolding atomIn atom roleAt
+  atom-in = rw (e .kind-is, e .a-is) refl
+
+  pub part-in : (types : Bool) (w : ℕ) → w < 4 → partIn types i x w ≡ partAt rd types i w
+  unfolding partIn partAt lower roleAt
+  part-in types w h = rw (word-in rd i x e w h, e .kind-is) refl
+
 -- The ways out of `atom_of`.
-module _ (rd : Reader) (i k : ℕ) (ek : k ≡ rd i 0) (s : Bool) (es : s ≡ isSymbol k) where
-  pub atom-of-symbol : s ≡ true → i ≡ atom rd i
-  atom-of-symbol h = atom-symbol rd i k ek s es h
+module _ (i : ℕ) (x : Record) (s : Bool) (es : s ≡ isSymbol (x .kind)) where
+  pub atom-symbol : s ≡ true → i ≡ atomIn i x
+  unfolding atomIn ifTrue
+  atom-symbol h = simp (atomIn, ifTrue, ← es, h)
 
-  module _ (no : s ≡ false) (q : ℕ) (eq : q ≡ role k 1) (t : Bool) (et : t ≡ isNumber q) where
-    role-is : q ≡ roleAt rd i 1
-    unfolding roleAt
-    role-is = rw (← ek) eq
+  module _ (no : s ≡ false) (q : ℕ) (eq : q ≡ role (x .kind) 1) (t : Bool) (et : t ≡ isNumber q) where
+    pub atom-number : t ≡ true → x .a ≡ atomIn i x
+    unfolding atomIn ifTrue
+    atom-number h = simp (atomIn, ifTrue, ← es, no, ← eq, ← et, h)
 
-    pub atom-of-number : t ≡ true → (a : ℕ) → a ≡ rd i 1 → a ≡ atom rd i
-    atom-of-number h a e = atom-number rd i k ek s es no q role-is t et h a e
+    pub atom-none : t ≡ false → 0 ≡ atomIn i x
+    unfolding atomIn ifTrue
+    atom-none h = simp (atomIn, ifTrue, ← es, no, ← eq, ← et, h)
 
-    pub atom-of-none : t ≡ false → 0 ≡ atom rd i
-    atom-of-none h = atom-none rd i k ek s es no q role-is t et h
+-- The ways out of `part_of`.
+module _ (types : Bool) (i : ℕ) (x : Record) (w q : ℕ) (eq : q ≡ role (x .kind) w) (t : Bool) (et : t ≡ isPart types q) where
+  pub part-other : not t ≡ true → 0 ≡ partIn types i x w
+  unfolding partIn ifTrue
+  part-other h = simp (partIn, ifTrue, ← eq, ← et, not-true t h)
+
+  module _ (no : not t ≡ false) (a : ℕ) (ea : a ≡ wordIn x w) where
+    pub part-near : a < i → a ≡ partIn types i x w
+    unfolding partIn ifTrue ifLt
+    part-near h = simp (partIn, ifTrue, ifLt, ← eq, ← et, not-false t no, ← ea, lt-ltb a i h)
+
+    pub part-far : i ≤ a → 0 ≡ partIn types i x w
+    unfolding partIn ifTrue ifLt
+    part-far h = simp (partIn, ifTrue, ifLt, ← eq, ← et, not-false t no, ← ea, le-ltb a i h)
+
+pub part-in-below : (types : Bool) (i : ℕ) (x : Record) (w : ℕ) → 0 < i → partIn types i x w < i
+unfolding partIn ifTrue ifLt
+part-in-below types i x w p = go (isPart types (role (x .kind) w)) (ltb (wordIn x w) i) refl
+  where
+    go : (b c : Bool) → ltb (wordIn x w) i ≡ c → elim b as (λ x. ℕ) [ true ↦ elim c as (λ x. ℕ) [ true ↦ wordIn x w | false ↦ 0 ] | false ↦ 0 ] < i
+    go true true e = ltb-true (wordIn x w) i e
+    go true false e = p
+    go false c e = p
+
+pub part-in-table : (types : Bool) (table : List ℕ) (i : ℕ) (x : Record) (w a : ℕ) → 0 < i → i ≤ length table → a ≡ partIn types i x w → a < length table
+part-in-table types table i x w a p h e = omega (arith, part-in-below types i x w p)
 
 -- The ways out of `part_at`.
 module _ (rd : Reader) (types : Bool) (i k w q : ℕ) (ek : k ≡ rd i 0) (eq : q ≡ role k w) (t : Bool) (et : t ≡ isPart types q) where
@@ -190,15 +233,17 @@ module _ (rd : Reader) (types : Bool) (i k w q : ℕ) (ek : k ≡ rd i 0) (eq : 
   part-is h x e = simp (partAt, ifTrue, role-at, ← et, not-false t h) e
 
 -- the entry of a part
-pub part-in : (rd : Reader) (types : Bool) (table : List ℕ) (i w x : ℕ) → 0 < i → i ≤ length table → x ≡ partAt rd types i w → x < length table
-part-in rd types table i w x p h e = omega (arith, part-below rd types i w p)
+pub part-at-table : (rd : Reader) (types : Bool) (table : List ℕ) (i w x : ℕ) → 0 < i → i ≤ length table → x ≡ partAt rd types i w → x < length table
+part-at-table rd types table i w x p h e = omega (arith, part-below rd types i w p)
 
 pub entry-is : (rd : Reader) (types : Bool) (table : List ℕ) (i w x v : ℕ) → x ≡ partAt rd types i w → v ≡ getD table x 0 → v ≡ partEntry rd types table i w
 unfolding partEntry
 entry-is rd types table i w x v e h = rw (← e) h
 
 -- the key that the code puts together
-pub key-is : (rd : Reader) (types : Bool) (table : List ℕ) (i k a x y z : ℕ) → k ≡ rd i 0 → a ≡ atom rd i →
-    x ≡ partEntry rd types table i 1 → y ≡ partEntry rd types table i 2 → z ≡ partEntry rd types table i 3 → key k a x y z ≡ keyFrom rd types table i
-unfolding keyFrom
-key-is rd types table i k a x y z ek ea ex ey ez = rw (ek, ea, ex, ey, ez)
+pub key-is : (rd : Reader) (types : Bool) (table : List ℕ) (i : ℕ) (x : Record) (p a b c : ℕ) → RecordIs rd i x → p ≡ atomIn i x → a ≡ getD table (partIn types i x 1) 0 →
+    b ≡ getD table (partIn types i x 2) 0 → c ≡ getD table (partIn types i x 3) 0 → key (x .kind) p a b c ≡ keyFrom rd types table i
+unfolding keyFrom partEntry
+key-is rd types table i x p a b c e ep ea eb ec =
+    let part : (w : ℕ) → w < 4 → partIn types i x w ≡ partAt rd types i w = part-in rd i x e types in
+    rw (ep, ea, eb, ec, atom-in rd i x e, part 1 (lit< tt), part 2 (lit< tt), part 3 (lit< tt), e .kind-is)

@@ -2,14 +2,14 @@
 // the records below n it says the same where they are equal. Types may be left out.
 use crate::keys;
 use crate::tables;
-use reader::trees;
-use reader::words;
+use reader_view::Record;
+use reader_view::views;
 ghost use mathlib.Core.Path.{_≡_};
 ghost use Prim.Native.Nat.{_<_, _≤_};
 ghost use lib.ListN.{length};
 ghost use Rattle.reader.specs.Words.{word};
-ghost use Rattle.reader_equality.specs.Keys.{partAt};
-ghost use Rattle.reader_equality.specs.Compare.{hasBoth, sameFrom, samePart};
+ghost use Rattle.reader_view.specs.Records.{RecordIs};
+ghost use Rattle.reader_equality.specs.Compare.{hasBoth, sameFrom, samePart, sameRecords};
 
 // Has the table both records?
 fn has_both(n: usize, i: usize, j: usize) -> bool
@@ -21,16 +21,28 @@ fn has_both(n: usize, i: usize, j: usize) -> bool
     j < n
 }
 
-// The part that word w of record i refers to; 0 for none.
-fn part_of(obligation: &[u8], second: &[u8], m: usize, types: bool, i: usize, w: u8) -> usize
-    ensures { λ r. ⌜ r ≡ partAt (word (now (obligation .entry)) (now (second .entry)) m) types i w ⌝ }
+// Are parts a and b equal? Most often they are one record, and no call is made.
+fn same_part(
+    obligation: &[u8],
+    second: &[u8],
+    m: usize,
+    types: bool,
+    table: &[usize],
+    n: usize,
+    a: usize,
+    b: usize,
+) -> bool
+    requires { ⌜ n ≤ length (now table) ⌝ }
+    ensures { λ r. ⌜ r ≡ sameFrom (word (now (obligation .entry)) (now (second .entry)) m) types (now (table .entry)) n a b ⌝ }
 {
-    let k = words::word_at(obligation, second, m, i, 0);
-    keys::part_at(obligation, second, m, types, i, k, w)
+    if a == b {
+        return true;
+    }
+    same_at(obligation, second, m, types, table, n, a, b)
 }
 
-// Do words w of records i and j refer to equal parts?
-fn same_part(
+// Have records i and j, neither of them 0, one kind, one atom and equal parts? Each is fetched once.
+fn same_records(
     obligation: &[u8],
     second: &[u8],
     m: usize,
@@ -39,14 +51,31 @@ fn same_part(
     n: usize,
     i: usize,
     j: usize,
-    w: u8,
 ) -> bool
     requires { ⌜ (0 < i) × (n ≤ length (now table)) ⌝ }
-    ensures { λ r. ⌜ r ≡ samePart (word (now (obligation .entry)) (now (second .entry)) m) types (now (table .entry)) n i j w ⌝ }
+    ensures { λ r. ⌜ r ≡ sameRecords (word (now (obligation .entry)) (now (second .entry)) m) types (now (table .entry)) n i j ⌝ }
 {
-    let x = part_of(obligation, second, m, types, i, w);
-    let y = part_of(obligation, second, m, types, j, w);
-    same_at(obligation, second, m, types, table, n, x, y)
+    let x = views::record_of(obligation, second, m, i);
+    let y = views::record_of(obligation, second, m, j);
+    if x.kind != y.kind {
+        return false;
+    }
+    if keys::atom_of(i, x) != keys::atom_of(j, y) {
+        return false;
+    }
+    let a = keys::part_of(types, i, x, 1);
+    let b = keys::part_of(types, j, y, 1);
+    if !same_part(obligation, second, m, types, table, n, a, b) {
+        return false;
+    }
+    let c = keys::part_of(types, i, x, 2);
+    let d = keys::part_of(types, j, y, 2);
+    if !same_part(obligation, second, m, types, table, n, c, d) {
+        return false;
+    }
+    let e = keys::part_of(types, i, x, 3);
+    let f = keys::part_of(types, j, y, 3);
+    same_part(obligation, second, m, types, table, n, e, f)
 }
 
 // Are records i and j equal?
@@ -75,14 +104,5 @@ pub fn same_at(
     if j == 0 {
         return false;
     }
-    if !trees::same_head(obligation, second, m, i, j) {
-        return false;
-    }
-    if !same_part(obligation, second, m, types, table, n, i, j, 1) {
-        return false;
-    }
-    if !same_part(obligation, second, m, types, table, n, i, j, 2) {
-        return false;
-    }
-    same_part(obligation, second, m, types, table, n, i, j, 3)
+    same_records(obligation, second, m, types, table, n, i, j)
 }

@@ -3,24 +3,23 @@ use crate::Key;
 use crate::tables;
 use reader::kinds;
 use reader::trees;
-use reader::words;
+use reader_view::Record;
+use reader_view::views;
 ghost use mathlib.Core.Path.{_≡_};
 ghost use Prim.Native.Nat.{_<_, _≤_};
-ghost use lib.ListN.{length};
+ghost use lib.ListN.{length, getD};
 ghost use Rattle.reader.specs.Words.{word};
-ghost use Rattle.reader.specs.Trees.{atom};
-ghost use Rattle.reader_equality.specs.Keys.{isPart, partAt, partEntry, keyFrom, bucketOf, sideOf, turned, sameKey};
+ghost use Rattle.reader_equality.specs.Keys.{isPart, partAt, partEntry, atomIn, partIn, keyFrom, bucketOf, sideOf, turned, sameKey};
 
-// What tells record i, whose kind is k, from others of its kind.
-fn atom_of(obligation: &[u8], second: &[u8], m: usize, i: usize, k: usize) -> usize
-    requires { ⌜ k ≡ word (now obligation) (now second) m i 0 ⌝ }
-    ensures { λ r. ⌜ r ≡ atom (word (now (obligation .entry)) (now (second .entry)) m) i ⌝ }
+// What tells record i, whose words are x, from others of its kind.
+pub fn atom_of(i: usize, x: Record) -> usize
+    ensures { λ r. ⌜ r ≡ atomIn i x ⌝ }
 {
-    if kinds::is_symbol(k) {
+    if kinds::is_symbol(x.kind) {
         return i;
     }
-    if kinds::is_number(kinds::role_of(k, 1)) {
-        return words::word_at(obligation, second, m, i, 1);
+    if kinds::is_number(kinds::role_of(x.kind, 1)) {
+        return x.a;
     }
     0
 }
@@ -78,6 +77,25 @@ pub fn part_entry(
     tables::entry(table, x)
 }
 
+// The part that word w of record i, whose words are x, refers to; 0 for none.
+pub fn part_of(types: bool, i: usize, x: Record, w: u8) -> usize
+    ensures { λ r. ⌜ r ≡ partIn types i x w ⌝ }
+{
+    if !is_part(types, kinds::role_of(x.kind, w)) {
+        return 0;
+    }
+    let a = views::word_in(x, w);
+    if a < i { a } else { 0 }
+}
+
+// What the table says of that part.
+fn entry_of(types: bool, table: &[usize], i: usize, x: Record, w: u8) -> usize
+    requires { ⌜ (0 < i) × (i ≤ length (now table)) ⌝ }
+    ensures { λ r. ⌜ r ≡ getD (now (table .entry)) (partIn types i x w) 0 ⌝ }
+{
+    tables::entry(table, part_of(types, i, x, w))
+}
+
 // The key of record i.
 pub fn key_at(
     obligation: &[u8],
@@ -90,13 +108,13 @@ pub fn key_at(
     requires { ⌜ (0 < i) × (i ≤ length (now table)) ⌝ }
     ensures { λ r. ⌜ r ≡ keyFrom (word (now (obligation .entry)) (now (second .entry)) m) types (now (table .entry)) i ⌝ }
 {
-    let kind = words::word_at(obligation, second, m, i, 0);
+    let x = views::record_of(obligation, second, m, i);
     Key {
-        kind,
-        atom: atom_of(obligation, second, m, i, kind),
-        first: part_entry(obligation, second, m, types, table, i, kind, 1),
-        second: part_entry(obligation, second, m, types, table, i, kind, 2),
-        third: part_entry(obligation, second, m, types, table, i, kind, 3),
+        kind: x.kind,
+        atom: atom_of(i, x),
+        first: entry_of(types, table, i, x, 1),
+        second: entry_of(types, table, i, x, 2),
+        third: entry_of(types, table, i, x, 3),
     }
 }
 

@@ -1,9 +1,11 @@
 -- One record's four words, and their laws.
-use Prim.Native.Nat.{ℕ, _+_, _*_, _-_, _<_, _≤_}
+use Prim.Native.Nat.{ℕ, zero, suc, _+_, _*_, _-_, _<_, _≤_}
 use mathlib.Core.Path.{_≡_, sym, ap, _∙_}
 use mathlib.Core.List.{List}
 use lib.Dec.{lit<}
 use native.Mathlib.Omega.{arith}
+use borrow.Author.Tests.{ne-eqb}
+use Rattle.reader.specs.Tests.{ifEq}
 use Rattle.reader.specs.Words.{Reader, wordFrom, wordOf, through}
 use Rattle.reader.specs.WordLaws.{word-is}
 use Rattle.reader.specs.TestLaws.{lt-yes, lt-no}
@@ -15,6 +17,23 @@ pub record RecordIs (rd : Reader) (i : ℕ) (r : Record) : Type 0 where
   pub a-is : r .a ≡ rd i 1
   pub b-is : r .b ≡ rd i 2
   pub c-is : r .c ≡ rd i 3
+
+-- word w of such a record
+unfoldable pub wordIn : Record → ℕ → ℕ
+wordIn r w = ifEq w 0 (r .kind) (ifEq w 1 (r .a) (ifEq w 2 (r .b) (ifEq w 3 (r .c) 0)))
+
+pub word-in : (rd : Reader) (i : ℕ) (r : Record) → RecordIs rd i r → (w : ℕ) → w < 4 → wordIn r w ≡ rd i w
+unfolding wordIn ifEq
+word-in rd i r e zero h = e .kind-is
+word-in rd i r e (suc zero) h = e .a-is
+word-in rd i r e (suc (suc zero)) h = e .b-is
+word-in rd i r e (suc (suc (suc zero))) h = e .c-is
+word-in rd i r e (suc (suc (suc (suc w)))) h = absurd (omega arith)
+
+-- past its words
+pub word-none : (r : Record) (w : ℕ) → 4 ≤ w → 0 ≡ wordIn r w
+unfolding wordIn ifEq
+word-none r w h = simp (wordIn, ifEq, ne-eqb w 0 (λ e. omega arith), ne-eqb w 1 (λ e. omega arith), ne-eqb w 2 (λ e. omega arith), ne-eqb w 3 (λ e. omega arith))
 
 -- records up to m are the first reader's, those past m the second's
 module _ (first second : Reader) (m i : ℕ) (r : Record) where

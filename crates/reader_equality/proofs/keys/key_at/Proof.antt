@@ -5,15 +5,15 @@ use Rattle.reader_equality.proofs.keys.key_at.Tie as tie
 
 pub key-at-spec : {M : Type 1} → statement M
 key-at-spec = tie.close (tie.spec
-    -- word-at-requires: 3 args
+    -- record-of-requires: 3 args
     (λ c κs. search needs)
-    -- atom-of-requires: word-at; 4 args
+    -- atom-of-requires: record-of; 4 args
     (λ c κs. search needs)
-    -- part-entry-requires: atom-of; 1 word-at; 5 args
+    -- entry-of-requires: atom-of; 1 record-of; 5 args
     (λ c κs. search needs)
-    -- part-entry-requires-2: part-entry; 1 atom-of; 2 word-at; 6 args
+    -- entry-of-requires-2: entry-of; 1 atom-of; 2 record-of; 6 args
     (λ c κs. search needs)
-    -- part-entry-requires-3: part-entry2; 1 part-entry; 2 atom-of; 3 word-at; 7 args
+    -- entry-of-requires-3: entry-of2; 1 entry-of; 2 atom-of; 3 record-of; 7 args
     (λ c κs. search needs)
-    -- returns: part-entry3; 1 part-entry2; 2 part-entry; 3 atom-of; 4 word-at; 8 args
+    -- returns: entry-of3; 1 entry-of2; 2 entry-of; 3 atom-of; 4 record-of; 8 args
     (λ c. search key-is))

@@ -1,5 +1,5 @@
 use borrow.Author.Needs.{needs}
-use Rattle.reader_equality.specs.Keys.{part-in, entry-is}
+use Rattle.reader_equality.specs.Keys.{part-at-table, entry-is}
 use Rattle.reader_equality.proofs.keys.part_entry.Statement.{statement}
 use Rattle.reader_equality.proofs.keys.part_entry.Tie as tie
 
@@ -8,6 +8,6 @@ part-entry-spec = tie.close (tie.spec
     -- part-at-requires: 3 args
     (λ c κs. search needs)
     -- entry-requires: part-at; 4 args
-    (λ c κs. search part-in)
+    (λ c κs. search part-at-table)
     -- returns: entry; 1 part-at; 5 args
     (λ c. search entry-is))
