@@ -12,9 +12,12 @@ use Rattle.reader.specs.Words.{Reader, le32, wordFrom, wordOf, through, word}
 use Rattle.reader.specs.Tests.{ifEq, ifLt, ifTrue}
 use Rattle.reader.specs.Kinds.{role, isNumber, isSymbol}
 use Rattle.reader.specs.Trees.{child, atom, tree}
-use Rattle.reader.specs.TreeLaws.{tree-zero, tree-step}
+use Rattle.reader.specs.TreeLaws.{tree-zero, tree-step, child-below}
 use Rattle.reader.specs.Variables.{binders, indicesBelow, typesBelow}
 use Rattle.reader_chains.specs.Shapes.{atom-first}
+use Rattle.reader_view.specs.declared.Record.{Record}
+use Rattle.reader_view.specs.Records.{RecordIs}
+use Rattle.reader_equality.specs.Keys.{partIn, part-in, part-child}
 use Rattle.reader_closedness.specs.Reach.{larger, variable, crossed, ownReach, reach, indices-reach, types-reach}
 
 -- an entry of a type variable's reach
@@ -141,9 +144,17 @@ unfolding reach
 reach-node rd types i k own x y z u p q r n ek eo ex ey ez eu ep eq er =
     rw (tree-step rd i (omega arith), ← ek, ← eo, ← ex, ← ey, ← ez, ← eu, ← ep, ← eq) er
 
--- the part that the code holds
-pub reach-part : (rd : Reader) (types : Bool) (i w x r : ℕ) → x ≡ child rd i w → r ≡ reach types (tree rd x) → r ≡ reach types (tree rd (child rd i w))
-reach-part rd types i w x r ex er = rw (← ex) er
+-- the part a that the code has of the words v of record i
+module _ (rd : Reader) (i : ℕ) (v : Record) (e : RecordIs rd i v) (w : ℕ) (low : w < 4) (a : ℕ) (ea : a ≡ partIn true i v w) where
+  part-is : a ≡ child rd i w
+  part-is = ea ∙ part-in rd i v e true w low ∙ part-child rd i w
+
+  pub reach-part : (types : Bool) (r : ℕ) → r ≡ reach types (tree rd a) → r ≡ reach types (tree rd (child rd i w))
+  reach-part types r er = rw (← part-is) er
+
+  -- the measure is twice the record's number, and 1 more for a record, 2 for a part
+  pub part-falls : (t : ℕ) → 2 * i + 1 ≡ t → (i ≡ 0 → ⊥) → 2 * a + 2 < t
+  part-falls t q p = omega (arith, part-is, child-below rd i w (omega arith))
 
 -- The loop.
 pub reached-none : (rd : Reader) (reaches : List ℕ) → Reached rd reaches 0

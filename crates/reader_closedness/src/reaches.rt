@@ -1,13 +1,14 @@
 // How far a tree's variables reach: its type variables, or else its indices. A recursion over the parts of a record; a table in front of it
 // remembers what was found.
-use reader::trees;
 use reader::words;
+use reader_equality::keys::part_of;
 use reader_equality::tables;
+use reader_view::views;
 ghost use mathlib.Core.Path.{_≡_};
 ghost use Prim.Native.Nat.{_+_, _*_, _-_, _<_, _≤_};
 ghost use lib.ListN.{length, getD};
 ghost use Rattle.reader.specs.Words.{word};
-ghost use Rattle.reader.specs.Trees.{child, atom, tree};
+ghost use Rattle.reader.specs.Trees.{atom, tree};
 ghost use Rattle.reader_closedness.specs.Reach.{larger, variable, crossed, ownReach, reach};
 ghost use Rattle.reader_closedness.specs.Reaches.{Reached, entryOf};
 
@@ -76,7 +77,7 @@ fn entry_of(reaches: &[usize], types: bool, i: usize) -> usize
     tables::entry(reaches, 2 * i)
 }
 
-// How far part w of record i reaches.
+// How far part a reaches: most often the table has it, and no call is made.
 fn part_reach(
     obligation: &[u8],
     second: &[u8],
@@ -84,14 +85,15 @@ fn part_reach(
     reaches: &[usize],
     n: usize,
     types: bool,
-    i: usize,
-    w: u8,
+    a: usize,
 ) -> usize
-    requires { ⌜ (0 < i) × (2 * n ≤ length (now reaches)) × Reached (word (now obligation) (now second) m) (now reaches) (2 * n) ⌝ }
-    ensures { λ r. ⌜ r ≡ reach types (tree (word (now (obligation .entry)) (now (second .entry)) m) (child (word (now (obligation .entry)) (now (second .entry)) m) i w)) ⌝ }
+    requires { ⌜ (2 * n ≤ length (now reaches)) × Reached (word (now obligation) (now second) m) (now reaches) (2 * n) ⌝ }
+    ensures { λ r. ⌜ r ≡ reach types (tree (word (now (obligation .entry)) (now (second .entry)) m) a) ⌝ }
 {
-    let x = trees::child_at(obligation, second, m, i, w);
-    reach_at(obligation, second, m, reaches, n, types, x)
+    if a < n {
+        return entry_of(reaches, types, a);
+    }
+    reach_at(obligation, second, m, reaches, n, types, a)
 }
 
 // How far record i reaches: as the table says, which has the records below n, or else as far as its parts, which are smaller records.
@@ -113,10 +115,13 @@ pub fn reach_at(
     if i == 0 {
         return 0;
     }
-    let k = words::word_at(obligation, second, m, i, 0);
-    let own = own_reach(obligation, second, m, types, i, k);
-    let x = part_reach(obligation, second, m, reaches, n, types, i, 1);
-    let y = part_reach(obligation, second, m, reaches, n, types, i, 2);
-    let z = part_reach(obligation, second, m, reaches, n, types, i, 3);
-    larger(own, larger(x, larger(under(types, k, y), z)))
+    let v = views::record_of(obligation, second, m, i);
+    let own = own_reach(obligation, second, m, types, i, v.kind);
+    let a = part_of(true, i, v, 1);
+    let b = part_of(true, i, v, 2);
+    let c = part_of(true, i, v, 3);
+    let x = part_reach(obligation, second, m, reaches, n, types, a);
+    let y = part_reach(obligation, second, m, reaches, n, types, b);
+    let z = part_reach(obligation, second, m, reaches, n, types, c);
+    larger(own, larger(x, larger(under(types, v.kind, y), z)))
 }
