@@ -17,7 +17,10 @@ use Rattle.reader.specs.Weight.{isWeighed, ownWeight, weight}
 use Rattle.reader.specs.Records.{mostWeight, weightFits}
 use Rattle.reader.specs.Answers.{answer, firstFault}
 use Rattle.reader.specs.AnswerLaws.{scan-stop}
-use Rattle.reader.specs.TreeLaws.{child-below, tree-zero, tree-step}
+use Rattle.reader.specs.TreeLaws.{tree-zero, tree-step}
+use Rattle.reader_view.specs.declared.Record.{Record}
+use Rattle.reader_view.specs.Records.{RecordIs}
+use Rattle.reader_equality.specs.Keys.{partIn, part-in, part-in-below, part-child}
 
 -- a weight as the table holds it
 unfoldable pub capped : ℕ → ℕ
@@ -27,13 +30,17 @@ capped w = min w 65535
 pub record Filled (rd : Reader) (table : List ℕ) (i : ℕ) : Type 0 where
   pub holds : (j : ℕ) → j < i → getD table j 0 ≡ capped (weight (tree rd j))
 
--- a reference is to an entry of the table, and that holds its weight
-pub entry-in : (rd : Reader) (table : List ℕ) (i w j : ℕ) → 0 < i → i ≤ length table → j ≡ child rd i w → j < length table
-entry-in rd table i w j p q e = omega (arith, child-below rd i w p)
+-- a part is an entry of the table, and that holds its weight
+pub entry-is : (rd : Reader) (table : List ℕ) (i a v : ℕ) → a < i → Filled rd table i → v ≡ getD table a 0 → v ≡ capped (weight (tree rd a))
+entry-is rd table i a v p fill q = q ∙ fill .holds a p
 
-pub entry-is : (rd : Reader) (table : List ℕ) (i w j v : ℕ) → 0 < i → Filled rd table i → j ≡ child rd i w → v ≡ getD table j 0 →
-    v ≡ capped (weight (tree rd (child rd i w)))
-entry-is rd table i w j v p fill e q = q ∙ rw e (fill .holds (child rd i w) (child-below rd i w p))
+-- the part a that the code has of the words v of record i
+module _ (rd : Reader) (i : ℕ) (v : Record) (e : RecordIs rd i v) (w : ℕ) (low : w < 4) (a : ℕ) (ea : a ≡ partIn true i v w) where
+  pub part-weight : (r : ℕ) → r ≡ capped (weight (tree rd a)) → r ≡ capped (weight (tree rd (child rd i w)))
+  part-weight r er = rw (← part-child rd i w, ← part-in rd i v e true w low, ← ea) er
+
+pub part-low : (i : ℕ) (v : Record) (w a : ℕ) → 0 < i → a ≡ partIn true i v w → a < i
+part-low i v w a p e = rw e (part-in-below true i v w p)
 
 -- the weight of a record, from its parts'
 module _ (rd : Reader) (i k : ℕ) (p : 0 < i) (ek : k ≡ rd i 0) where

@@ -1,12 +1,13 @@
 // Refusal 7: weight. Weights of smaller records stand in a table, up to 65,535 each, so that shared records are weighed once.
 use reader::kinds;
-use reader::trees;
 use reader::words;
+use reader_equality::keys::part_of;
+use reader_view::views;
 ghost use mathlib.Core.Path.{_≡_};
 ghost use Prim.Native.Nat.{_<_, _≤_, min};
 ghost use lib.ListN.{length, getD};
 ghost use Rattle.reader.specs.Words.{word};
-ghost use Rattle.reader.specs.Trees.{child, tree};
+ghost use Rattle.reader.specs.Trees.{tree};
 ghost use Rattle.reader.specs.Weight.{isWeighed, ownWeight, weight};
 ghost use Rattle.reader.specs.Records.{mostWeight, weightFits};
 ghost use Rattle.reader_weights.specs.Weights.{capped, Filled};
@@ -50,12 +51,19 @@ fn own_weight(k: usize) -> usize
     if is_weighed(k) { 1 } else { 0 }
 }
 
-// The weight of what word w of record i refers to.
-fn child_weight(obligation: &[u8], second: &[u8], m: usize, table: &[u16], i: usize, w: u8) -> usize
-    requires { ⌜ (0 < i) × (i ≤ length (now table)) × Filled (word (now obligation) (now second) m) (now table) i ⌝ }
-    ensures { λ r. ⌜ (r ≡ capped (weight (tree (word (now (obligation .entry)) (now (second .entry)) m) (child (word (now (obligation .entry)) (now (second .entry)) m) i w)))) × (r < 65536) ⌝ }
+// The weight of part a of record i.
+fn part_weight(
+    obligation: &[u8],
+    second: &[u8],
+    m: usize,
+    table: &[u16],
+    i: usize,
+    a: usize,
+) -> usize
+    requires { ⌜ (a < i) × (i ≤ length (now table)) × Filled (word (now obligation) (now second) m) (now table) i ⌝ }
+    ensures { λ r. ⌜ (r ≡ capped (weight (tree (word (now (obligation .entry)) (now (second .entry)) m) a))) × (r < 65536) ⌝ }
 {
-    entry(table, trees::child_at(obligation, second, m, i, w))
+    entry(table, a)
 }
 
 // The weight of record i, from the table of the smaller records' weights.
@@ -63,14 +71,17 @@ pub fn weigh(obligation: &[u8], second: &[u8], m: usize, table: &[u16], i: usize
     requires { ⌜ (0 < i) × (i ≤ length (now table)) × Filled (word (now obligation) (now second) m) (now table) i ⌝ }
     ensures { λ r. ⌜ r ≡ capped (weight (tree (word (now (obligation .entry)) (now (second .entry)) m) i)) ⌝ }
 {
-    let k = words::word_at(obligation, second, m, i, 0);
-    if k == 7 {
+    let v = views::record_of(obligation, second, m, i);
+    if v.kind == 7 {
         return 1;
     }
-    let a = child_weight(obligation, second, m, table, i, 1);
-    let b = child_weight(obligation, second, m, table, i, 2);
-    let c = child_weight(obligation, second, m, table, i, 3);
-    cap(own_weight(k) + a + b + c)
+    let x = part_of(true, i, v, 1);
+    let y = part_of(true, i, v, 2);
+    let z = part_of(true, i, v, 3);
+    let a = part_weight(obligation, second, m, table, i, x);
+    let b = part_weight(obligation, second, m, table, i, y);
+    let c = part_weight(obligation, second, m, table, i, z);
+    cap(own_weight(v.kind) + a + b + c)
 }
 
 fn most_weight(mode: u8) -> usize
