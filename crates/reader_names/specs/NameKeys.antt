@@ -9,7 +9,8 @@ use native.Mathlib.Omega.{arith}
 use borrow.Author.Tests.{eq-eqb, ne-eqb, eqb-true, eqb-false, lt-ltb, ltb-true, not-true, not-false}
 use Rattle.reader.specs.Words.{Reader}
 use Rattle.reader.specs.Tests.{both, either, between, every, ifEq}
-use Rattle.reader.specs.Names.{nameOf, nameSpace, isLetter, isDigitOrUnderscore, single, accented, characters, name}
+use Rattle.reader.specs.Names.{nameOf, nameSpace, nameBytes, isLetter, isDigitOrUnderscore, single, accented, characters, name}
+use Rattle.reader.specs.TreeLaws.{linked-zero}
 use Rattle.reader_equality.specs.declared.Key.{Key}
 use Rattle.reader_equality.specs.Keys.{key}
 use Rattle.reader_characters.specs.declared.Step.{Step}
@@ -271,6 +272,10 @@ name-key rd i j e q = rw (e, q)
 
 -- The ways out of `key_of`: `s` was read, `k` is the key so far, and `small` says that its character can be dealt.
 module _ (rd : Reader) (i : ℕ) where
+  pub key-nameless : (first : ℕ) (r : Key) → first ≡ nameOf rd i → first ≡ 0 → r ≡ spaceKey 0 → r ≡ nameKey rd i
+  unfolding nameKey name nameBytes characters spread ifEq
+  key-nameless first r ef z e = e ∙ rw (← ef, z, linked-zero rd) refl
+
   pub key-start : (w space first : ℕ) (k : Key) (s : Step) → w ≡ rd i 0 → space ≡ nameSpace w → k ≡ spaceKey space → first ≡ nameOf rd i →
       spelled rd s ≡ characters (restBytes rd first 0) → nameKey rd i ≡ spread k (spelled rd s)
   unfolding nameKey

@@ -63,12 +63,15 @@ fn mixed(k: Key) -> Key
     }
 }
 
-// The key of symbol i.
+// The key of symbol i. Most records name nothing, and are told at once.
 pub fn key_of(obligation: &[u8], second: &[u8], m: usize, i: usize) -> Key
     ensures { λ r. ⌜ r ≡ nameKey (word (now (obligation .entry)) (now (second .entry)) m) i ⌝ }
 {
     let mut key = space_key(symbols::space_of(words::word_at(obligation, second, m, i, 0)));
     let first = symbols::name_of(obligation, second, m, i);
+    if first == 0 {
+        return space_key(0);
+    }
     let mut s = characters::next_character(obligation, second, m, first, 0);
     while s.more {
         if !has_room(key, s.value) {
