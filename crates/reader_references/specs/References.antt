@@ -1,10 +1,9 @@
 -- Parts of the definitions of references and chain lengths, and the ways out of the code for them.
-use Prim.Native.Nat.{ℕ, zero, _<_, _≤_}
+use Prim.Native.Nat.{ℕ, zero, suc, _/_, _%_, _<_, _≤_}
 use mathlib.Core.Path.{_≡_, refl, sym, ap, _∙_}
-use mathlib.Core.List.{List, map}
 use mathlib.Core.Bool.{Bool, true, false, not}
 use lib.Dec.{ltb, eqb, leb}
-use lib.ListN.{length, getD, List·getD-map, List·getD-eq-default}
+use lib.ListN.{length, getD, List·getD-eq-default}
 use native.Mathlib.Omega.{arith}
 use borrow.Author.Tests.{eq-eqb, ne-eqb, le-ltb, lt-ltb, not-true, not-false}
 use Rattle.reader.specs.Words.{Reader}
@@ -18,42 +17,19 @@ use Rattle.reader.specs.ChainLaws.{linked-length, linked-none}
 use Rattle.reader.specs.Records.{inRange, rangeAt, Reference, anyRecord, references, mayBeZero, wantedClass, itemClass, hasClass, itemsHaveClass, refers}
 use Rattle.reader.specs.Records.{refersAt, typesFit, argumentsFit, itemChainsFit}
 
--- The columns of the table of references, at its entries and past its end.
-abbrev bit : Bool → ℕ
-bit b = elim b [ true ↦ 1 | false ↦ 0 ]
+-- what a number packs, a hexadecimal digit each: whether the reference may be 0, the class of the record, the class of the items
+unfoldable pub unpacked : ℕ → Reference
+unpacked n = record { zero = eqb (n / 256) 1; class = n / 16 % 16; items = n % 16 }
 
-bit-one : (b : Bool) → eqb (bit b) 1 ≡ b
-bit-one true = refl
-bit-one false = refl
-
-module _ (r : ℕ) where
-  pub zero-in : eqb (getD (map (λ (x : Reference). bit (x .zero)) references) r 0) 1 ≡ mayBeZero r
-  unfolding mayBeZero
-  zero-in = ap (λ (n : ℕ). eqb n 1) (List·getD-map (λ (x : Reference). bit (x .zero)) references r anyRecord) ∙ bit-one (mayBeZero r)
-
-  pub wanted-in : getD (map (λ (x : Reference). x .class) references) r 0 ≡ wantedClass r
-  unfolding wantedClass
-  wanted-in = List·getD-map (λ (x : Reference). x .class) references r anyRecord
-
-  pub items-in : getD (map (λ (x : Reference). x .items) references) r 0 ≡ itemClass r
-  unfolding itemClass
-  items-in = List·getD-map (λ (x : Reference). x .items) references r anyRecord
-
-  module _ (h : 18 ≤ r) where
-    past : getD references r anyRecord ≡ anyRecord
-    past = List·getD-eq-default references anyRecord h
-
-    pub zero-past : false ≡ mayBeZero r
-    unfolding mayBeZero
-    zero-past = ap (λ (x : Reference). x .zero) (sym past)
-
-    pub wanted-past : 0 ≡ wantedClass r
-    unfolding wantedClass
-    wanted-past = ap (λ (x : Reference). x .class) (sym past)
-
-    pub item-past : 0 ≡ itemClass r
-    unfolding itemClass
-    item-past = ap (λ (x : Reference). x .items) (sym past)
+-- the last arm: roles 0 to 5 and past the table's end
+pub reference-none : (r : ℕ) → (6 ≤ r → 18 ≤ r) → anyRecord ≡ getD references r anyRecord
+reference-none zero h = refl
+reference-none (suc zero) h = refl
+reference-none (suc (suc zero)) h = refl
+reference-none (suc (suc (suc zero))) h = refl
+reference-none (suc (suc (suc (suc zero)))) h = refl
+reference-none (suc (suc (suc (suc (suc zero))))) h = refl
+reference-none (suc (suc (suc (suc (suc (suc r)))))) h = sym (List·getD-eq-default references anyRecord (h (omega arith)))
 
 -- the class of a record that a function read
 pub class-is : (rd : Reader) (c j k : ℕ) → (c ≡ 0 → ⊥) → k ≡ classAt rd j → eqb k c ≡ hasClass rd c j

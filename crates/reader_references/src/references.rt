@@ -4,50 +4,54 @@ use reader::kinds;
 use reader::trees;
 use reader_view::views;
 ghost use mathlib.Core.Path.{_≡_};
+ghost use lib.ListN.{getD};
 ghost use Rattle.reader.specs.Words.{word};
 ghost use Rattle.reader.specs.Tests.{every};
 ghost use Rattle.reader.specs.Chains.{items};
-ghost use Rattle.reader.specs.Records.{mayBeZero, wantedClass, itemClass, hasClass, itemsHaveClass, refers, refersAt, referencesFit, typesFit, argumentsFit, itemChainsFit};
-ghost use Rattle.reader_references.specs.References.{pointsWell};
+ghost use Rattle.reader.specs.Records.{references, anyRecord, mayBeZero, wantedClass, itemClass, hasClass, itemsHaveClass, refers, refersAt, referencesFit, typesFit, argumentsFit, itemChainsFit};
+ghost use Rattle.reader_references.specs.References.{unpacked, pointsWell};
 
-// The columns of the table of references, by role.
-const ZEROS: [u8; 18] = [0, 0, 0, 0, 0, 0, 0, 1, 1, 0, 0, 1, 0, 0, 0, 0, 0, 1];
-
-const CLASSES: [u8; 18] = [0, 0, 0, 0, 0, 0, 2, 2, 1, 1, 0, 1, 3, 4, 5, 6, 1, 1];
-
-const ITEMS: [u8; 18] = [0, 0, 0, 0, 0, 0, 0, 0, 0, 3, 0, 0, 0, 0, 0, 0, 3, 4];
+// What a reference in this role must name, a hexadecimal digit each: 1 where it may be 0, the class of the record, and the class of the items of the chain
+// there. A `match`, as the compiler would write a `const` array to the stack at each use.
+fn reference_of(role: u8) -> u16
+    ensures { λ r. ⌜ unpacked r ≡ getD references role anyRecord ⌝ }
+{
+    match role {
+        6 => 0x020, // name
+        7 => 0x120, // next name record
+        8 => 0x110, // chain of parts or premises
+        9 => 0x013, // a function's chain of types
+        10 => 0x000, // item
+        11 => 0x110, // next link
+        12 => 0x030, // type
+        13 => 0x040, // term
+        14 => 0x050, // formula
+        15 => 0x060, // function
+        16 => 0x013, // chain of types
+        17 => 0x114, // chain of arguments
+        _ => 0, // no reference
+    }
+}
 
 // May a reference in this role be 0?
 fn may_be_zero(role: u8) -> bool
     ensures { λ r. ⌜ r ≡ mayBeZero role ⌝ }
 {
-    let at = role as usize;
-    if 18 <= at {
-        return false;
-    }
-    ZEROS[at] == 1
+    reference_of(role) / 0x100 == 1
 }
 
 // The class that a reference in this role asks for, 0 for any.
 fn wanted_class(role: u8) -> u8
     ensures { λ r. ⌜ r ≡ wantedClass role ⌝ }
 {
-    let at = role as usize;
-    if 18 <= at {
-        return 0;
-    }
-    CLASSES[at]
+    (reference_of(role) / 0x10 % 0x10) as u8
 }
 
 // The class that it asks of the items of a chain, 0 for no chain.
 fn item_class(role: u8) -> u8
     ensures { λ r. ⌜ r ≡ itemClass role ⌝ }
 {
-    let at = role as usize;
-    if 18 <= at {
-        return 0;
-    }
-    ITEMS[at]
+    (reference_of(role) % 0x10) as u8
 }
 
 // Has record j class c, 0 for any?

@@ -1,13 +1,14 @@
+use mathlib.Core.Path.{ap}
 use borrow.Author.Needs.{needs}
-use Rattle.reader_references.specs.References.{zero-past, zero-in}
+use Rattle.reader.specs.Records.{Reference, mayBeZero}
+use Rattle.reader_references.specs.References.{unpacked}
 use Rattle.reader_references.proofs.references.may_be_zero.Statement.{statement}
 use Rattle.reader_references.proofs.references.may_be_zero.Tie as tie
 
 pub may-be-zero-spec : {M : Type 1} → statement M
+unfolding unpacked mayBeZero
 may-be-zero-spec = tie.close (tie.spec
-    -- returns: if1; 1 args
-    (λ c. search zero-past)
-    -- array-read-result: if1; 1 args
-    (λ c. search needs)
-    -- returns-2: if1; 1 args
-    (λ c. zero-in (c .before .args .role)))
+    -- reference-of-requires: 0 args
+    (λ c κs. search needs)
+    -- returns: reference-of; 1 args
+    (λ c. ap (λ (x : Reference). x .zero) (c .reference-of .ensures)))

@@ -1,13 +1,16 @@
+use mathlib.Core.Path.{ap}
 use borrow.Author.Needs.{needs}
-use Rattle.reader_references.specs.References.{wanted-past, wanted-in}
+use Rattle.reader.specs.Records.{Reference, wantedClass}
+use Rattle.reader_references.specs.References.{unpacked}
 use Rattle.reader_references.proofs.references.wanted_class.Statement.{statement}
 use Rattle.reader_references.proofs.references.wanted_class.Tie as tie
 
 pub wanted-class-spec : {M : Type 1} → statement M
+unfolding unpacked wantedClass
 wanted-class-spec = tie.close (tie.spec
-    -- returns: if1; 1 args
-    (λ c. search wanted-past)
-    -- array-read-result: if1; 1 args
+    -- reference-of-requires: 0 args
+    (λ c κs. search needs)
+    -- cast-result: reference-of; 1 args
     (λ c. search needs)
-    -- returns-2: if1; 1 args
-    (λ c. wanted-in (c .before .args .role)))
+    -- returns: reference-of; 1 args
+    (λ c. ap (λ (x : Reference). x .class) (c .reference-of .ensures)))
