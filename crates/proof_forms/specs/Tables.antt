@@ -1,12 +1,14 @@
 -- What the rules 32 to 46 say of the number of premises and the shapes of parts, as tables, and that the rows say the same.
 use Prim.Native.Nat.{ℕ, _-_, _<_, _≤_}
-use mathlib.Core.Path.{_≡_, refl}
+use mathlib.Core.Path.{_≡_, refl, sym}
 use mathlib.Core.List.{List, [], _∷_, map}
 use mathlib.Core.Bool.{Bool, true, false}
 use lib.Dec.{ltb}
 use lib.ListN.{getD, length}
-use borrow.Author.Tests.{lt-ltb, le-ltb, ltb-true, ltb-false}
+use native.Mathlib.Omega.{arith}
+use borrow.Author.Tests.{lt-ltb, ltb-true, ltb-false}
 use Rattle.reader.specs.Tests.{ifEq, ifLt}
+use Rattle.reader.specs.TestLaws.{Rest, rest-past}
 use Rattle.reader.specs.Words.{Reader}
 use Rattle.reader.specs.Trees.{Tree, lower, tree}
 use Rattle.reader.specs.Chains.{items, itemTrees, parts}
@@ -65,20 +67,9 @@ premises-are ps =
     refl refl refl refl refl refl refl refl refl refl refl refl refl refl refl
     (λ k other. rw (row-none k ps other, entry-none premiseCounts k (k - 32) other) refl)
 
--- The ways out of the code that reads the tables.
-module _ (table : List ℕ) (k i : ℕ) where
-  pub entry-low : k < 32 → 0 ≡ ruleEntry table k i
-  unfolding ruleEntry ifLt
-  entry-low h = simp (ruleEntry, ifLt, lt-ltb k 32 h)
-
-  module _ (low : 32 ≤ k) where
-    pub entry-high : 46 < k → 0 ≡ ruleEntry table k i
-    unfolding ruleEntry ifLt
-    entry-high h = simp (ruleEntry, ifLt, le-ltb k 32 low, lt-ltb 46 k h)
-
-    pub entry-rule : k ≤ 46 → getD table i 0 ≡ ruleEntry table k i
-    unfolding ruleEntry ifLt
-    entry-rule h = simp (ruleEntry, ifLt, le-ltb k 32 low, le-ltb 46 k h)
+-- the last arm of the code's tables: no rule has no entry
+pub entry-rest : (table : List ℕ) (k i : ℕ) → Rest 32 k 15 → 0 ≡ ruleEntry table k i
+entry-rest table k i rest = sym (entry-none table k i (λ j low high same. omega (arith, rest-past 32 k 15 (omega arith) rest)))
 
 -- the shapes of a node's parts
 module _ (rd : Reader) (n k c : ℕ) (ek : k ≡ rd n 0) (ec : c ≡ lower rd n 1) where

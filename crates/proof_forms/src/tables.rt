@@ -1,50 +1,53 @@
-// What the rules 32 to 46 say of the number of premises and the shapes of parts, as tables.
+// What the rules 32 to 46 say of the number of premises and the shapes of parts, as tables. Each is a `match`, as the compiler would write a `const` array to
+// the stack at each use.
 ghost use mathlib.Core.Path.{_≡_};
 ghost use Rattle.proof_forms.specs.Tables.{shapeCode, premiseCount};
 
-// A byte for each part, the first's lowest: a kind, 32 and a class, or 64 and what stands under a ¬.
-const SHAPES: [usize; 15] = [
-    0,
-    0,
-    37,
-    84,
-    20,
-    37,
-    165,
-    16,
-    81,
-    17,
-    80,
-    2426707,
-    2434067,
-    0,
-    159536915493,
-];
-
-const PREMISES: [usize; 15] = [0, 0, 0, 0, 0, 2, 1, 1, 1, 2, 2, 1, 1, 1, 2];
-
-// The shapes of the parts of rule k; none for 45, whose parts its first part counts.
+// The shapes of the parts of rule k, none for 45, whose parts its first part counts. A byte for each part, the first's lowest: a kind, 32 and a class, or 64 and
+// what stands under a ¬.
 pub fn shape_code(k: usize) -> usize
     ensures { λ r. ⌜ r ≡ shapeCode k ⌝ }
 {
-    if k < 32 {
-        return 0;
+    match k {
+        32 => 0,
+        33 => 0,
+        34 => 37,
+        35 => 84,
+        36 => 20,
+        37 => 37,
+        38 => 165,
+        39 => 16,
+        40 => 81,
+        41 => 17,
+        42 => 80,
+        43 => 2426707,
+        44 => 2434067,
+        45 => 0,
+        46 => 159536915493,
+        _ => 0,
     }
-    if 46 < k {
-        return 0;
-    }
-    SHAPES[k - 32]
 }
 
 // The number of premises of rule k.
 pub fn premise_count(k: usize) -> usize
     ensures { λ r. ⌜ r ≡ premiseCount k ⌝ }
 {
-    if k < 32 {
-        return 0;
+    match k {
+        32 => 0,
+        33 => 0,
+        34 => 0,
+        35 => 0,
+        36 => 0,
+        37 => 2,
+        38 => 1,
+        39 => 1,
+        40 => 1,
+        41 => 2,
+        42 => 2,
+        43 => 1,
+        44 => 1,
+        45 => 1,
+        46 => 2,
+        _ => 0,
     }
-    if 46 < k {
-        return 0;
-    }
-    PREMISES[k - 32]
 }

@@ -1,19 +1,20 @@
 -- The forms of what each rule needs and adds, as tables, and that the rows say the same.
-use Prim.Native.Nat.{ℕ, zero, suc, _+_, _*_, _-_, _<_, _≤_}
-use mathlib.Core.Path.{_≡_, refl, sym, _∙_}
+use Prim.Native.Nat.{ℕ, zero, suc, _+_, _*_, _-_, _/_, _%_, _<_, _≤_}
+use mathlib.Core.Path.{_≡_, refl, sym, ap, _∙_}
 use mathlib.Core.List.{List, [], _∷_}
 use mathlib.Core.Bool.{Bool}
 use lib.ListN.{getD, length}
 use native.Mathlib.Omega.{arith}
-use borrow.Author.Tests.{lt-ltb, le-ltb}
+use borrow.Author.Tests.{le-ltb}
 use Rattle.reader.specs.Words.{Reader}
 use Rattle.reader.specs.Tests.{both, every, ifEq, ifLt}
+use Rattle.reader.specs.TestLaws.{Rest}
 use Rattle.reader.specs.Trees.{Tree}
 use Rattle.proof_rules.specs.Rules.{row}
 use Rattle.proof_rules.specs.RowLaws.{row-none, by-rule}
 use Rattle.proof_rules.specs.Check.{rowOf}
 use Rattle.reader.specs.Members.{member}
-use Rattle.proof_forms.specs.Tables.{ruleEntry, entry-none}
+use Rattle.proof_forms.specs.Tables.{ruleEntry, entry-none, entry-rest}
 use Rattle.proof_rows.specs.Paths.{stepTree, pathTree, partTrees}
 use Rattle.proof_rows.specs.Forms.{leftPath, rightPath, formTree, needTree, oneTree, twoTrees, needHolds, two-hold}
 
@@ -103,11 +104,57 @@ adds-are ps k (suc (suc b)) =
     none : (c : ℕ) → 2 ≤ c → twoTrees (formTree ps) (addForm k c 0) (addForm k c 1) ≡ []
     none c h = rw (← add-past k c 0 h, ← add-past k c 1 h) refl
 
--- The way out of the code that reads what is added.
-module _ (k b w : ℕ) where
-  pub add-entry : b < 2 → (r : ℕ) → r ≡ ruleEntry adds k (4 * (k - 32) + 2 * b + w) → r ≡ addForm k b w
-  unfolding addForm ifLt
-  add-entry h r e = simp (addForm, ifLt, lt-ltb b 2 h) e
+-- The ways out of the code that has the tables' rows packed in numbers.
+
+-- the first or the last of two
+unfoldable pub half : ℕ → ℕ → ℕ
+half n w = ifEq w 0 (n / 256) (n % 256)
+
+unfoldable pub needsIn : ℕ → List ℕ
+needsIn n = half n 0 ∷ half n 1 ∷ []
+
+unfoldable pub addsIn : ℕ → List ℕ
+addsIn n = half (n / 65536) 0 ∷ half (n / 65536) 1 ∷ half (n % 65536) 0 ∷ half (n % 65536) 1 ∷ []
+
+unfoldable pub needForms : ℕ → List ℕ
+needForms k = needForm k 0 ∷ needForm k 1 ∷ []
+
+unfoldable pub addForms : ℕ → List ℕ
+addForms k = addForm k 0 0 ∷ addForm k 0 1 ∷ addForm k 1 0 ∷ addForm k 1 1 ∷ []
+
+by-half : (w : ℕ) (P : ℕ → Type 0) → P 0 → P 1 → w < 2 → P w
+by-half zero P p q h = p
+by-half (suc zero) P p q h = q
+by-half (suc (suc w)) P p q h = absurd (omega arith)
+
+module _ (k n w : ℕ) where
+  pub need-half : needsIn n ≡ needForms k → w < 2 → half n w ≡ needForm k w
+  unfolding needsIn needForms
+  need-half e h = by-half w (λ (v : ℕ). half n v ≡ needForm k v) (ap (λ (l : List ℕ). getD l 0 0) e) (ap (λ (l : List ℕ). getD l 1 0) e) h
+
+  pub add-first : addsIn n ≡ addForms k → w < 2 → half (n / 65536) w ≡ addForm k 0 w
+  unfolding addsIn addForms
+  add-first e h = by-half w (λ (v : ℕ). half (n / 65536) v ≡ addForm k 0 v) (ap (λ (l : List ℕ). getD l 0 0) e) (ap (λ (l : List ℕ). getD l 1 0) e) h
+
+  pub add-last : addsIn n ≡ addForms k → w < 2 → half (n % 65536) w ≡ addForm k 1 w
+  unfolding addsIn addForms
+  add-last e h = by-half w (λ (v : ℕ). half (n % 65536) v ≡ addForm k 1 v) (ap (λ (l : List ℕ). getD l 2 0) e) (ap (λ (l : List ℕ). getD l 3 0) e) h
+
+-- the last arm: no rule needs or adds nothing
+module _ (k : ℕ) (rest : Rest 32 k 15) where
+  pub needs-rest : needsIn 0 ≡ needForms k
+  unfolding needsIn needForms half needForm ifEq
+  needs-rest = rw (← entry-rest needs k (2 * (k - 32) + 0) rest, ← entry-rest needs k (2 * (k - 32) + 1) rest) refl
+
+  pub adds-rest : addsIn 0 ≡ addForms k
+  unfolding addsIn addForms half addForm ifEq ifLt
+  adds-rest =
+      rw (
+        ← entry-rest adds k (4 * (k - 32) + 2 * 0 + 0) rest,
+        ← entry-rest adds k (4 * (k - 32) + 2 * 0 + 1) rest,
+        ← entry-rest adds k (4 * (k - 32) + 2 * 1 + 0) rest,
+        ← entry-rest adds k (4 * (k - 32) + 2 * 1 + 1) rest,
+      ) refl
 
 -- the members that node n needs are all there
 unfoldable pub needsHold : Reader → List Tree → ℕ → Bool

@@ -1,6 +1,8 @@
 use borrow.Author.Needs.{needs}
-use Rattle.proof_forms.specs.Tables.{entry-low, entry-high, entry-rule}
-use Rattle.proof_rows.specs.Tables.{add-past, add-entry}
+use native.Mathlib.Omega.{arith}
+use Prim.Native.Nat.{ℕ}
+use mathlib.Core.Path.{_≡_, sym, ap, _∙_}
+use Rattle.proof_rows.specs.Tables.{addForm, add-past, add-first, add-last}
 use Rattle.proof_rows.proofs.tables.add_form.Statement.{statement}
 use Rattle.proof_rows.proofs.tables.add_form.Tie as tie
 
@@ -8,19 +10,17 @@ pub add-form-spec : {M : Type 1} → statement M
 add-form-spec = tie.close (tie.spec
     -- returns: if1; 1 args
     (λ c. search add-past)
-    -- returns-2: if2; 1 if1; 2 args
-    (λ c. search (add-entry, entry-low))
-    -- returns-3: if3; 1 if2; 2 if1; 3 args
-    (λ c. search (add-entry, entry-high))
-    -- mul-result: if3; 1 if2; 2 if1; 3 args
+    -- add-row-requires: if1; 1 args
+    (λ c κs. search needs)
+    -- cast-half: if2; 1 add-row; 2 if1; 3 args
     (λ c. search needs)
-    -- mul-result-2: if3; 1 if2; 2 if1; 3 args
+    -- half-requires: if2; 1 add-row; 2 if1; 3 args
+    (λ c κs. search needs)
+    -- returns-2: half; 1 if2; 2 add-row; 3 if1; 4 args
+    (λ c. c .half .ensures ∙ add-first _ _ _ (c .before .before .add-row .ensures) (c .before .before .before .before .pre) ∙ ap (λ (b : ℕ). addForm (c .before .before .before .before .args .k) b (c .before .before .before .before .args .w)) (sym (c .before .if2 .taken)))
+    -- cast-half-2: if2; 1 add-row; 2 if1; 3 args
     (λ c. search needs)
-    -- add-result: if3; 1 if2; 2 if1; 3 args
-    (λ c. search needs)
-    -- add-result-2: if3; 1 if2; 2 if1; 3 args
-    (λ c. search needs)
-    -- array-read-result: if3; 1 if2; 2 if1; 3 args
-    (λ c. search needs)
-    -- returns-4: if3; 1 if2; 2 if1; 3 args
-    (λ c. search (add-entry, entry-rule)))
+    -- half-requires-2: if2; 1 add-row; 2 if1; 3 args
+    (λ c κs. search needs)
+    -- returns-3: half2; 1 if2; 2 add-row; 3 if1; 4 args
+    (λ c. let one : c .before .before .before .before .args .b ≡ 1 = omega arith in c .half2 .ensures ∙ add-last _ _ _ (c .before .before .add-row .ensures) (c .before .before .before .before .pre) ∙ ap (λ (b : ℕ). addForm (c .before .before .before .before .args .k) b (c .before .before .before .before .args .w)) (sym one)))
