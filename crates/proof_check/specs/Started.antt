@@ -1,21 +1,19 @@
 -- The start of the walk over a pair that passes places 1 to 12.
-use Prim.Native.Nat.{ℕ, suc, _+_, _*_, _<_, _≤_}
+use Prim.Native.Nat.{ℕ, suc, _+_, _<_, _≤_, min}
 use mathlib.Core.Path.{_≡_, refl, sym, ap, _∙_}
 use mathlib.Core.List.{List, [], _∷_, _++_, append-assoc, append-nil}
 use mathlib.Core.Bool.{true}
-use lib.ListN.{length, take, replicate, length-replicate}
-use lib.Seq.{length-take-le}
+use lib.ListN.{length, take, replicate}
 use native.Mathlib.Omega.{arith}
-use borrow.Author.Tests.{eq-eqb, ne-eqb}
 use Rattle.reader.specs.declared.Answer.{Answer}
-use Rattle.reader.specs.Words.{Reader, wordOf, word}
+use Rattle.reader.specs.Words.{Reader, wordOf, word, recordCount}
 use Rattle.reader.specs.Tests.{ifEq}
 use Rattle.reader.specs.Kinds.{isRule}
 use Rattle.reader.specs.Trees.{Tree, lower, tree}
 use Rattle.reader.specs.Chains.{linked, itemTrees}
 use Rattle.reader.specs.TreeLaws.{lower-below, linked-step}
-use Rattle.reader.specs.Answers.{orAnswer}
-use Rattle.reader.specs.Places.{mostRecords, hypothesisChain, negatedGoal, countOf, rootOf, reading}
+use Rattle.reader.specs.AnswerLaws.{answer-stop, answer-go}
+use Rattle.reader.specs.Places.{mostRecords, hypothesisChain, negatedGoal, countOf, rootOf, obligationReading, secondReading, reading}
 use Rattle.reader_chains.specs.Chains.{trees-zero, trees-step}
 use Rattle.reader_equality.specs.Least.{Numbered}
 use Rattle.reader_equality.specs.Tables.{Zeros, zeros-take, zeros-made}
@@ -37,7 +35,7 @@ pub record Starting (rd : Reader) (numbers memory : List ℕ) : Type 0 where
   pub goal : negatedGoal rd < length numbers
   pub few : length (linked rd (hypothesisChain rd)) ≤ 256
 
--- the pair passes places 1 to 12, the tables have their lengths, and the scratch table is zeros
+-- the pair passes places 1 to 12, the tables have their lengths, the scratch table is zeros, and the numbers are there
 pub record Entering (ob s : List ℕ) (m : ℕ) (numbers memory scratch : List ℕ) : Type 0 where
   pub read : reading 1 ob s .refusal ≡ 0
   pub counted : m ≡ countOf ob
@@ -45,6 +43,7 @@ pub record Entering (ob s : List ℕ) (m : ℕ) (numbers memory scratch : List �
   pub long : length memory ≡ 1024
   pub wide : length numbers ≤ length scratch
   pub blank : Zeros scratch
+  pub numbered : Numbered (word ob s m) numbers (length numbers)
 
 -- an empty sequent
 pub ready-none : (rd : Reader) (numbers memory : List ℕ) → Starting rd numbers memory → Ready rd numbers memory 0
@@ -124,7 +123,7 @@ module _ (ob s : List ℕ) (read : reading 1 ob s .refusal ≡ 0) where
 
 -- The conditions of the calls of `walk_proof`.
 module _ (ob s : List ℕ) (m : ℕ) (numbers memory scratch : List ℕ) (enter : Entering ob s m numbers memory scratch) where
-  pub enter-small : length numbers ≤ 4096
+  enter-small : length numbers ≤ 4096
   enter-small = omega (arith, enter .all, enter .counted, obligation-few ob s (enter .read), proof-few ob s (enter .read))
 
   enter-last : length numbers ≡ lastOf ob s + 1
@@ -133,21 +132,21 @@ module _ (ob s : List ℕ) (m : ℕ) (numbers memory scratch : List ℕ) (enter 
   same-reader : word ob s m ≡ beside ob s
   same-reader = ap (λ (x : ℕ). word ob s x) (enter .counted)
 
-  pub enter-start : (table : List ℕ) → length table ≡ length numbers → Numbered (word ob s m) table (length table) → Starting (word ob s m) table memory
-  enter-start table l n =
+  pub enter-start : Starting (word ob s m) numbers memory
+  enter-start =
       let p = both-read ob s (enter .read) in
       let goal = pair-goal-range 1 ob s (p .0) (p .1) in
       record {
-        table = record { numbered = n; small = omega (arith, enter-small) };
+        table = record { numbered = enter .numbered; small = omega (arith, enter-small) };
         long = enter .long;
         chain = rw same-reader (omega (arith, enter-last, pair-hypotheses-range 1 ob s (p .0) (p .1)));
         goal = rw same-reader (omega (arith, enter-last, goal .1));
         few = rw same-reader (pair-hypotheses-limit 1 ob s (p .0) (p .1));
       }
 
-  pub enter-at : (table after marks : List ℕ) (h root : ℕ) → length table ≡ length numbers → length marks ≡ length scratch → Zeros marks → Ready (word ob s m) table after h →
-      root ≡ wordOf s 0 2 → At (word ob s m) table after marks h root
-  enter-at table after marks h root l k z ready e =
+  pub enter-at : (after marks : List ℕ) (h root : ℕ) → length marks ≡ length scratch → Zeros marks → Ready (word ob s m) numbers after h →
+      root ≡ wordOf s 0 2 → At (word ob s m) numbers after marks h root
+  enter-at after marks h root k z ready e =
       let p = both-read ob s (enter .read) in
       record {
         ready = ready;
@@ -170,37 +169,40 @@ pub walk-proof : (rd : Reader) (s after : List ℕ) (h root : ℕ) (r : Answer) 
 unfolding proofWalk visit
 walk-proof rd s after h root r er es e = rw (← er, ← es) e
 
--- The ways out of `check_proof`.
-module _ (ob s : List ℕ) (a : Answer) (ea : a ≡ reading 1 ob s) where
-  pub check-refused : (a .refusal ≡ 0 → ⊥) → a ≡ proofAnswer ob s
-  unfolding proofAnswer orAnswer
-  check-refused h = simp (proofAnswer, orAnswer, ← ea, ne-eqb (a .refusal) 0 h)
+-- The way out of `check_proof` where the obligation is refused.
+pub check-refused : (ob s : List ℕ) (a : Answer) → a ≡ obligationReading ob → (a .refusal ≡ 0 → ⊥) → a ≡ proofAnswer ob s
+unfolding proofAnswer reading
+check-refused ob s a ea h = answer-stop (reading 1 ob s) _ a (answer-stop (obligationReading ob) _ a ea h) h
+
+-- The ways out of `check_numbered`, where it passes.
+module _ (ob s : List ℕ) (first : obligationReading ob .refusal ≡ 0) (a : Answer) (ea : a ≡ secondReading 1 ob s) where
+  both-is : a ≡ reading 1 ob s
+  unfolding reading
+  both-is = answer-go (obligationReading ob) _ (obligationReading ob) a refl first ea
+
+  pub proof-refused : (a .refusal ≡ 0 → ⊥) → a ≡ proofAnswer ob s
+  unfolding proofAnswer
+  proof-refused h = answer-stop (reading 1 ob s) _ a both-is h
 
   module _ (z : a .refusal ≡ 0) where
-    pub check-read : reading 1 ob s .refusal ≡ 0
-    check-read = ap (λ (x : Answer). x .refusal) (sym ea) ∙ z
+    check-read : reading 1 ob s .refusal ≡ 0
+    check-read = ap (λ (x : Answer). x .refusal) (sym both-is) ∙ z
 
-    pub check-walked : (m : ℕ) (r : Answer) → m ≡ wordOf ob 0 1 → r ≡ proofWalk (word ob s m) (rootOf s) → r ≡ proofAnswer ob s
-    unfolding proofAnswer orAnswer
-    check-walked m r em e = simp (proofAnswer, orAnswer, ← ea, eq-eqb (a .refusal) 0 z, ← em) e
+    pub check-walked : (m : ℕ) (r : Answer) → m ≡ countOf ob → r ≡ proofWalk (word ob s m) (rootOf s) → r ≡ proofAnswer ob s
+    unfolding proofAnswer
+    check-walked m r em e = answer-go (reading 1 ob s) _ a r both-is z (rw (← em) e)
 
-    pub counts-few : (m n : ℕ) → m ≡ wordOf ob 0 1 → n ≡ wordOf s 0 1 → m + n + 1 ≤ 4096
-    counts-few m n em en = omega (arith, obligation-few ob s check-read, proof-few ob s check-read)
+    module _ (m size : ℕ) (em : m ≡ countOf ob) (es : size ≡ min (m + recordCount s) 4096) where
+      size-is : size ≡ m + countOf s + 1
+      size-is =
+          let b = header-parts s (counts-parts ob s (both-read ob s check-read .1 .counts) .0) in
+          omega (arith, b .1, obligation-few ob s check-read, proof-few ob s check-read)
 
-    pub entering : (m n : ℕ) (numbers memory scratch : List ℕ) → m ≡ wordOf ob 0 1 → n ≡ wordOf s 0 1 → length numbers ≡ m + n + 1 → length memory ≡ 1024 →
-        length scratch ≡ m + n + 1 → Zeros scratch → Entering ob s m numbers memory scratch
-    entering m n numbers memory scratch em en l k w z = record { read = check-read; counted = em; all = rw (← en) l; long = k; wide = omega arith; blank = z }
+      pub entering : (numbers memory scratch : List ℕ) → length numbers ≡ size → length memory ≡ 1024 → length scratch ≡ size → Zeros scratch →
+          Numbered (word ob s m) numbers (length numbers) → Entering ob s m numbers memory scratch
+      entering numbers memory scratch l k w z n =
+          record { read = check-read; counted = em; all = l ∙ size-is; long = k; wide = omega arith; blank = z; numbered = n }
 
--- the parts of the tables that are filled
-pub part-length : (k : ℕ) → k ≤ 4096 → length {A = ℕ} (take k (replicate 4096 0)) ≡ k
-part-length k h = length-take-le k (replicate 4096 0) h
-
-pub part-zeros : (k : ℕ) → Zeros (take k (replicate 4096 0))
-part-zeros k = zeros-take k (replicate 4096 0) (zeros-made 4096)
-
-pub reaches-length : (k : ℕ) → k ≤ 4096 → length {A = ℕ} (take (2 * k) (replicate 8192 0)) ≡ 2 * k
-reaches-length k h = length-take-le (2 * k) (replicate 8192 0) (omega arith)
-
--- the slots' length
-pub slots-long : (size : ℕ) → size ≤ 4096 → 4096 + 2 * size ≤ length {A = ℕ} (replicate 12288 0)
-slots-long size h = let long : length {A = ℕ} (replicate 12288 0) ≡ 12288 = length-replicate {A = ℕ} 12288 0 in rw long (omega arith)
+-- the part of the scratch table that is lent, as long as the table of numbers, whose length was kept
+pub part-zeros : (k n : ℕ) → k ≡ n → Zeros (take k (replicate 4096 0))
+part-zeros k n e = zeros-take k (replicate 4096 0) (zeros-made 4096)

@@ -4,33 +4,22 @@ use proof_walk::walk;
 use reader::Answer;
 use reader::words;
 use reader_closedness::fill::reach_all;
-use reader_equality::numbers::number_all;
 use reader_places::places;
 ghost use mathlib.Core.Path.{_≡_};
-ghost use Prim.Native.Nat.{_+_, _≤_};
+ghost use Prim.Native.Nat.{_+_, min};
 ghost use lib.ListN.{length};
 ghost use Rattle.reader.specs.declared.Answer.{Answer};
-ghost use Rattle.reader.specs.Words.{word};
-ghost use Rattle.reader.specs.Places.{countOf, rootOf, reading};
-ghost use Rattle.reader_equality.specs.Least.{Numbered};
+ghost use Rattle.reader.specs.Words.{word, recordCount};
+ghost use Rattle.reader.specs.Places.{countOf, rootOf, obligationReading};
 ghost use Rattle.proof_rules.specs.Check.{proofWalk, proofAnswer};
 ghost use Rattle.proof_check.specs.Started.{Entering};
 
-// Fills the table of numbers. The slots are needed here alone.
-fn number_records(obligation: &[u8], proof: &[u8], m: usize, numbers: &mut [usize])
-    requires { ⌜ length (now numbers) ≤ 4096 ⌝ }
-    ensures { λ _. ⌜ Numbered (word (now (obligation .entry)) (now (proof .entry)) m) (now (numbers .exit)) (length (now (numbers .exit))) ⌝ }
-{
-    let mut slots = [0u32; 12288];
-    number_all(obligation, proof, m, numbers, &mut slots);
-}
-
-// The walk over a pair that passes places 1 to 12. The tables are scratch.
+// The walk over a pair that passes places 1 to 12. The tables are scratch, but for the numbers.
 fn walk_proof(
     obligation: &[u8],
     proof: &[u8],
     m: usize,
-    numbers: &mut [usize],
+    numbers: &[usize],
     reaches: &mut [usize],
     memory: &mut [usize],
     scratch: &mut [usize],
@@ -38,7 +27,6 @@ fn walk_proof(
     requires { ⌜ Entering (now obligation) (now proof) m (now numbers) (now memory) (now scratch) ⌝ }
     ensures { λ r. ⌜ r ≡ proofWalk (word (now (obligation .entry)) (now (proof .entry)) m) (rootOf (now (proof .entry))) ⌝ }
 {
-    number_records(obligation, proof, m, numbers);
     reach_all(obligation, proof, m, reaches);
     let h = start::store_start(obligation, proof, m, numbers, memory);
     let root = words::word_of(proof, 0, 2);
@@ -56,18 +44,17 @@ fn walk_proof(
     )
 }
 
-// The answer to an obligation and a proof, any two byte areas.
-pub fn check_proof(obligation: &[u8], proof: &[u8]) -> Answer
+// The answer to a proof beside an obligation of m records that passes its places. The numbers are found once, for the reading and for the walk.
+fn check_numbered(obligation: &[u8], proof: &[u8], m: usize, numbers: &mut [usize]) -> Answer
+    requires { ⌜ (obligationReading (now obligation) .refusal ≡ 0) × (m ≡ countOf (now obligation)) × (length (now numbers) ≡ min (m + recordCount (now proof)) 4096) ⌝ }
     ensures { λ r. ⌜ r ≡ proofAnswer (now (obligation .entry)) (now (proof .entry)) ⌝ }
 {
-    let r = places::read_proof(obligation, proof);
-    if r.refusal != 0 {
-        return r;
+    places::number_records(obligation, proof, m, numbers);
+    let read = places::proof_reading(obligation, proof, m, numbers);
+    if read.refusal != 0 {
+        return read;
     }
-    let m = words::word_of(obligation, 0, 1);
-    let n = words::word_of(proof, 0, 1);
-    let size = m + n + 1;
-    let mut numbers = [0usize; 4096];
+    let size = numbers.len();
     let mut reaches = [0usize; 8192];
     let mut memory = [0usize; 1024];
     let mut scratch = [0usize; 4096];
@@ -75,9 +62,23 @@ pub fn check_proof(obligation: &[u8], proof: &[u8]) -> Answer
         obligation,
         proof,
         m,
-        &mut numbers[..size],
+        numbers,
         &mut reaches[..2 * size],
         &mut memory,
         &mut scratch[..size],
     )
+}
+
+// The answer to an obligation and a proof, any two byte areas.
+pub fn check_proof(obligation: &[u8], proof: &[u8]) -> Answer
+    ensures { λ r. ⌜ r ≡ proofAnswer (now (obligation .entry)) (now (proof .entry)) ⌝ }
+{
+    let r = places::obligation_reading(obligation);
+    if r.refusal != 0 {
+        return r;
+    }
+    let m = words::word_of(obligation, 0, 1);
+    let size = places::table_size(m, proof);
+    let mut numbers = [0usize; 4096];
+    check_numbered(obligation, proof, m, &mut numbers[..size])
 }

@@ -45,7 +45,22 @@ abbrev part-reach-calls : ℕ → part-reach-lts.Claims
 part-reach-calls t = (entry-of-reads.Asked, entry-of-reads.Learnt, reach-at-below t, reach-at.Post)
 
 abbrev reach-at-calls : ℕ → reach-at-lts.Claims
-reach-at-calls t = (entry-of-reads.Asked, entry-of-reads.Learnt, record-of-reads.Asked, record-of-reads.Learnt, own-reach-reads.Asked, own-reach-reads.Learnt, part-of-reads.Asked, part-of-reads.Learnt, part-reach-below t, part-reach.Post, under-reads.Asked, under-reads.Learnt, larger-reads.Asked, larger-reads.Learnt)
+reach-at-calls t = (
+  entry-of-reads.Asked,
+  entry-of-reads.Learnt,
+  record-of-reads.Asked,
+  record-of-reads.Learnt,
+  own-reach-reads.Asked,
+  own-reach-reads.Learnt,
+  part-of-reads.Asked,
+  part-of-reads.Learnt,
+  part-reach-below t,
+  part-reach.Post,
+  under-reads.Asked,
+  under-reads.Learnt,
+  larger-reads.Asked,
+  larger-reads.Learnt,
+)
 
 pub +part-reach+reach-at-spec : {M : Type 1} → statement M
 +part-reach+reach-at-spec = close μ-part-reach μ-reach-at

@@ -143,10 +143,32 @@ pub +same-at+same-part+same-records-spec : {M : Type 1} → statement M
     (c .before .before .before .part-of3 .ensures) (c .before .before .part-of4 .ensures) _ (c .before .same-part2 .ensures)) (c .if4 .taken))))
     -- part-of-requires-5: if4; 1 same-part2; 2 part-of4; 3 part-of3; 4 if3; 5 same-part; 6 part-of2; 7 part-of; 8 if2; 9 atom-of2; 10 atom-of; 11 if1; 12 struct-known2; 13 struct-known; 14 record-of2; 15 record-of; 19 args
     (λ c κs. search needs)
-    -- part-of-requires-6: part-of5; 1 if4; 2 same-part2; 3 part-of4; 4 part-of3; 5 if3; 6 same-part; 7 part-of2; 8 part-of; 9 if2; 10 atom-of2; 11 atom-of; 12 if1; 13 struct-known2; 14 struct-known; 15 record-of2; 16 record-of; 20 args
+    -- part-of-requires-6: part-of5; 1 if4; 2 same-part2; 3 part-of4; 4 part-of3; 5 if3; 6 same-part; 7 part-of2; 8 part-of; 9 if2; 10 atom-of2; 11 atom-of; 12 if1; 13 struct-known2; 14 struct-known; 15 record-of2;
+    -- 16 record-of; 20 args
     (λ c κs. search needs)
-    -- same-part-requires-3: part-of6; 1 part-of5; 2 if4; 3 same-part2; 4 part-of4; 5 part-of3; 6 if3; 7 same-part; 8 part-of2; 9 part-of; 10 if2; 11 atom-of2; 12 atom-of; 13 if1; 14 struct-known2; 15 struct-known; 16 record-of2; 17 record-of; 21 args
-    (λ c κs. let p = c .before .before .before .before .before .before .before .before .before .before .before .before .before .before .before .before .before .before .before .before .before .pre in (part-falls _ _ _ _ _ t (p .0) (p .1 .0) (c .before .part-of5 .ensures), p .1 .1))
-    -- returns-5: same-part3; 1 part-of6; 2 part-of5; 3 if4; 4 same-part2; 5 part-of4; 6 part-of3; 7 if3; 8 same-part; 9 part-of2; 10 part-of; 11 if2; 12 atom-of2; 13 atom-of; 14 if1; 15 struct-known2; 16 struct-known; 17 record-of2; 18 record-of; 22 args
+    -- same-part-requires-3: part-of6; 1 part-of5; 2 if4; 3 same-part2; 4 part-of4; 5 part-of3; 6 if3; 7 same-part; 8 part-of2; 9 part-of; 10 if2; 11 atom-of2; 12 atom-of; 13 if1; 14 struct-known2; 15 struct-known;
+    -- 16 record-of2; 17 record-of; 21 args
+    (λ c κs. let p = c .before .before .before .before .before .before .before .before .before .before .before .before .before .before .before .before .before .before .before .before .before .pre
+    in (part-falls _ _ _ _ _ t (p .0) (p .1 .0) (c .before .part-of5 .ensures), p .1 .1))
+    -- returns-5: same-part3; 1 part-of6; 2 part-of5; 3 if4; 4 same-part2; 5 part-of4; 6 part-of3; 7 if3; 8 same-part; 9 part-of2; 10 part-of; 11 if2; 12 atom-of2; 13 atom-of; 14 if1; 15 struct-known2; 16 struct-known;
+    -- 17 record-of2; 18 record-of; 22 args
     (λ c. records-parts _ _ _ _ _ _ _ _
-    (c .before .before .before .before .before .before .before .before .before .before .before .before .before .before .before .before .before .before .record-of .ensures) (c .before .before .before .before .before .before .before .before .before .before .before .before .before .before .before .before .before .record-of2 .ensures) (c .before .before .before .before .before .before .before .before .before .before .before .before .before .before .if1 .left) _ _ (c .before .before .before .before .before .before .before .before .before .before .before .before .before .atom-of .ensures) (c .before .before .before .before .before .before .before .before .before .before .before .before .atom-of2 .ensures) (c .before .before .before .before .before .before .before .before .before .before .before .if2 .left) _ (both-go _ _ _ _ (part-same _ _ _ _ _ _ _ _ (c .before .before .before .before .before .before .before .before .before .before .before .before .before .before .before .before .before .before .record-of .ensures) (c .before .before .before .before .before .before .before .before .before .before .before .before .before .before .before .before .before .record-of2 .ensures) 1 (lit< tt) _ _ (c .before .before .before .before .before .before .before .before .before .before .part-of .ensures) (c .before .before .before .before .before .before .before .before .before .part-of2 .ensures) _ (c .before .before .before .before .before .before .before .before .same-part .ensures)) (c .before .before .before .before .before .before .before .if3 .left) (both-go _ _ _ _ (part-same _ _ _ _ _ _ _ _ (c .before .before .before .before .before .before .before .before .before .before .before .before .before .before .before .before .before .before .record-of .ensures) (c .before .before .before .before .before .before .before .before .before .before .before .before .before .before .before .before .before .record-of2 .ensures) 2 (lit< tt) _ _ (c .before .before .before .before .before .before .part-of3 .ensures) (c .before .before .before .before .before .part-of4 .ensures) _ (c .before .before .before .before .same-part2 .ensures)) (c .before .before .before .if4 .left) (part-same _ _ _ _ _ _ _ _ (c .before .before .before .before .before .before .before .before .before .before .before .before .before .before .before .before .before .before .record-of .ensures) (c .before .before .before .before .before .before .before .before .before .before .before .before .before .before .before .before .before .record-of2 .ensures) 3 (lit< tt) _ _ (c .before .before .part-of5 .ensures) (c .before .part-of6 .ensures) _ (c .same-part3 .ensures))))))
+    (c .before .before .before .before .before .before .before .before .before .before .before .before .before .before .before .before .before .before .record-of .ensures)
+    (c .before .before .before .before .before .before .before .before .before .before .before .before .before .before .before .before .before .record-of2 .ensures)
+    (c .before .before .before .before .before .before .before .before .before .before .before .before .before .before .if1 .left) _ _
+    (c .before .before .before .before .before .before .before .before .before .before .before .before .before .atom-of .ensures)
+    (c .before .before .before .before .before .before .before .before .before .before .before .before .atom-of2 .ensures)
+    (c .before .before .before .before .before .before .before .before .before .before .before .if2 .left) _ (both-go _ _ _ _ (part-same _ _ _ _ _ _ _ _
+    (c .before .before .before .before .before .before .before .before .before .before .before .before .before .before .before .before .before .before .record-of .ensures)
+    (c .before .before .before .before .before .before .before .before .before .before .before .before .before .before .before .before .before .record-of2 .ensures) 1
+    (lit< tt) _ _ (c .before .before .before .before .before .before .before .before .before .before .part-of .ensures)
+    (c .before .before .before .before .before .before .before .before .before .part-of2 .ensures) _
+    (c .before .before .before .before .before .before .before .before .same-part .ensures)) (c .before .before .before .before .before .before .before .if3 .left)
+    (both-go _ _ _ _ (part-same _ _ _ _ _ _ _ _
+    (c .before .before .before .before .before .before .before .before .before .before .before .before .before .before .before .before .before .before .record-of .ensures)
+    (c .before .before .before .before .before .before .before .before .before .before .before .before .before .before .before .before .before .record-of2 .ensures) 2
+    (lit< tt) _ _ (c .before .before .before .before .before .before .part-of3 .ensures) (c .before .before .before .before .before .part-of4 .ensures) _
+    (c .before .before .before .before .same-part2 .ensures)) (c .before .before .before .if4 .left) (part-same _ _ _ _ _ _ _ _
+    (c .before .before .before .before .before .before .before .before .before .before .before .before .before .before .before .before .before .before .record-of .ensures)
+    (c .before .before .before .before .before .before .before .before .before .before .before .before .before .before .before .before .before .record-of2 .ensures) 3
+    (lit< tt) _ _ (c .before .before .part-of5 .ensures) (c .before .part-of6 .ensures) _ (c .same-part3 .ensures))))))

@@ -17,6 +17,17 @@ proof-reading-spec = tie.close (tie.spec
     -- slice-aggregate-second-reading-5: passed; 1 named; 2 table; 3 slots; 4 seen; 8 args
     (λ c. search needs)
     -- second-reading-requires: passed; 1 named; 2 table; 3 slots; 4 seen; 8 args
-    (λ c κs. (omega arith, c .before .before .before .before .before .before .before .before .pre .0, c .before .before .before .before .before .before .before .before .pre .1, room-for-proof, zeros-zeros 12288, zeros-blank 4096, zeros-cleared 4096, zeros-cleared 4096, c .before .before .before .before .before .before .before .before .pre .2, zeros-zeros 4096))
+    (λ c κs. (
+      omega arith,
+      c .before .before .before .before .before .before .before .before .pre .0,
+      c .before .before .before .before .before .before .before .before .pre .1,
+      room-for-proof,
+      zeros-zeros 12288,
+      zeros-blank 4096,
+      zeros-cleared 4096,
+      zeros-cleared 4096,
+      c .before .before .before .before .before .before .before .before .pre .2,
+      zeros-zeros 4096,
+    ))
     -- returns: passed2; 1 named2; 2 table2; 3 slots2; 4 seen2; 5 second-reading; 6 passed; 7 named; 8 table; 9 slots; 10 seen; 14 args
     (λ c. c .before .before .before .before .before .second-reading .ensures))
