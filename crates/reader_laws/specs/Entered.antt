@@ -1,6 +1,7 @@
--- A walk over rule nodes, of any calculus, enters no more nodes than `under` says.
+-- A walk over rule nodes, of any calculus, enters no more nodes than `under` says, and where it accepts, exactly as many.
 use Prim.Native.Nat.{ℕ, zero, suc, _+_, _<_, _≤_}
-use mathlib.Core.Path.{_≡_, refl, ap}
+use mathlib.Core.Path.{_≡_, refl, sym, ap, _∙_}
+use mathlib.Core.List.{List, [], _∷_}
 use mathlib.Core.Bool.{Bool, true, false}
 use lib.Dec.{eqb}
 use native.Mathlib.Omega.{arith}
@@ -12,11 +13,11 @@ use Rattle.reader.specs.DownLaws.{down-zero}
 use Rattle.reader.specs.Kinds.{isRule}
 use Rattle.reader.specs.Trees.{lower}
 use Rattle.reader.specs.Chains.{items, premises}
-use Rattle.reader.specs.TreeLaws.{below, lower-below, items-step}
+use Rattle.reader.specs.TreeLaws.{below, lower-below, items-step, items-end, items-more}
 use Rattle.reader.specs.Walk.{Walks, walkStep, noWalk, walks, walkNode, walkLinks}
-use Rattle.reader.specs.WalkLaws.{node-go, node-stop, link-zero, link-go, link-stop}
+use Rattle.reader.specs.WalkLaws.{node-go, node-stop, link-zero, link-go, link-stop, Each, Inherited, sound}
 use Rattle.reader_laws.specs.Scan.{every-head}
-use Rattle.reader_laws.specs.Under.{under, underLinks, under-step, under-links}
+use Rattle.reader_laws.specs.Under.{under, underLinks, under-step, under-links, under-links-zero}
 
 -- A walk whose nodes, where they pass their tests, have rule nodes for premises.
 module _ {S : Type 0} (mode : ℕ) (rd : Reader) (fault : S → ℕ → ℕ) (next : S → ℕ → ℕ → S)
@@ -115,3 +116,29 @@ module _ {S : Type 0} (mode : ℕ) (rd : Reader) (fault : S → ℕ → ℕ) (ne
   pub link-count : (c n b : ℕ) (st : S) (count : ℕ) → every (λ x. isRule mode (rd x 0)) (items rd c) ≡ true →
       walkLinks rd fault next c n b st count .nodes ≤ count + underLinks mode rd c
   link-count c = counted c .at-link
+
+  -- An accepting walk from a rule node enters every node that `under` counts.
+  abbrev Full : S → ℕ → ℕ → Type 0
+  Full st n k = isRule mode (rd n 0) ≡ true → k ≡ under mode rd n
+
+  -- along a chain of rule nodes, from link c on
+  links-full : (c n b : ℕ) (st : S) (xs : List ℕ) (k : ℕ) → items rd c ≡ xs → every (λ x. isRule mode (rd x 0)) xs ≡ true →
+      Each Full next st n b xs k → k ≡ underLinks mode rd c
+  unfolding Each
+  links-full c n b st [] k e all h = h ∙ sym (ap (underLinks mode rd) (items-end rd c e) ∙ under-links-zero mode rd)
+  links-full c n b st (x ∷ xs) k e all h =
+      let p = items-more rd c x xs e in
+      let r = every-head (λ y. isRule mode (rd y 0)) x xs all in
+      let rest = links-full (lower rd c 3) n (b + 1) st xs (h .1) (p .2) (r .1) (h .3) in
+      omega (arith, h .4, h .2 (r .0), rest, under-links mode rd c (p .0) (rw (p .1) (r .0)), ap (under mode rd) (p .1))
+
+  node-full : Inherited rd fault next Full
+  unfolding premises
+  node-full st n k p pass h r =
+      omega (arith, under-step mode rd n p, links-full (lower rd n 2) n 0 st (premises rd n) k refl (rules st n pass) h)
+
+  -- an accepting walk from rule node n enters exactly `under n` nodes
+  pub accepted-count : (n : ℕ) (st : S) (count : ℕ) → isRule mode (rd n 0) ≡ true → walkNode rd fault next n st count .refusal ≡ 0 →
+      walkNode rd fault next n st count .nodes ≡ count + under mode rd n
+  accepted-count n st count r h =
+      let s = sound rd fault next Full node-full n st count h in omega (arith, ap (λ (a : Answer). a .nodes) (s .2), s .1 r)

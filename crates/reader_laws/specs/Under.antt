@@ -104,7 +104,7 @@ module _ (mode : ℕ) (rd : Reader) where
 -- `under` of the records that others name.
 module _ (mode : ℕ) (rd : Reader) where
   -- 1 for a rule node, and 0 for any other record
-  abbrev oneRule : ℕ → ℕ
+  abbrev pub oneRule : ℕ → ℕ
   oneRule x = ifTrue (isRule mode (rd x 0)) 1 0
 
   -- `under` of the rule nodes among records 1 to t, each as often as `times` says
@@ -201,9 +201,12 @@ few-rules mode ob s r t =
     most true = omega arith
     most false = omega arith
 
--- a walk from the root of an accepted file can enter at most as many nodes as the second file has records
+-- from the root of an accepted file a walk can enter every rule node
+pub root-all : (mode : ℕ) (ob s : List ℕ) → ReadObligation ob → ReadSecond mode ob s →
+    under mode (beside ob s) (rootOf s) ≡ sumTo (oneRule mode (beside ob s)) (lastOf ob s)
+root-all mode ob s r t =
+    root-rules mode (beside ob s) (rootOf s) (lastOf ob s) (root-range mode ob s r t .1) (t .root) (rule-once mode ob s r t)
+
+-- so at most as many nodes as the second file has records
 pub root-under : (mode : ℕ) (ob s : List ℕ) → ReadObligation ob → ReadSecond mode ob s → under mode (beside ob s) (rootOf s) ≤ countOf s
-root-under mode ob s r t =
-    let same : under mode (beside ob s) (rootOf s) ≡ sumTo (oneRule mode (beside ob s)) (lastOf ob s) =
-    root-rules mode (beside ob s) (rootOf s) (lastOf ob s) (root-range mode ob s r t .1) (t .root) (rule-once mode ob s r t) in
-    omega (arith, few-rules mode ob s r t)
+root-under mode ob s r t = omega (arith, root-all mode ob s r t, few-rules mode ob s r t)

@@ -13,6 +13,8 @@ use Rattle.reader.specs.Words.{Reader}
 use Rattle.reader.specs.Tests.{ifEq}
 use Rattle.reader.specs.Kinds.{isRule}
 use Rattle.reader_laws.specs.Scan.{when-true, when-false, between-parts}
+use Rattle.reader_laws.specs.Sums.{sumTo}
+use Rattle.reader_laws.specs.Under.{oneRule}
 use Rattle.translation_rules.specs.Templates.{Line, template}
 use Rattle.translation_rules.specs.Templates.{lines32, lines33, lines34, lines35, lines36, lines37, lines38, lines39}
 use Rattle.translation_rules.specs.Templates.{lines40, lines41, lines42, lines43, lines44, lines45, lines46}
@@ -87,6 +89,14 @@ module _ (rd : Reader) where
       go true e = size-rule i e .2
       go false e = let none : size rd i ≡ 0 = size-other i e in omega arith
 
+  -- at most 21 records for a rule node, and none for another record
+  size-rules : (i : ℕ) → size rd i ≤ 21 * oneRule 1 rd i
+  size-rules i = go (isRule 1 (rd i 0)) refl
+    where
+      go : (b : Bool) → isRule 1 (rd i 0) ≡ b → size rd i ≤ 21 * oneRule 1 rd i
+      go true e = let one : oneRule 1 rd i ≡ 1 = when-true 1 0 (isRule 1 (rd i 0)) e in omega (arith, size-rule i e .2)
+      go false e = omega (arith, size-other i e)
+
 -- Sums of sizes.
 module _ (rd : Reader) (m : ℕ) where
   before-step : (c : ℕ) → before rd m (suc c) ≡ before rd m c + size rd (m + suc c)
@@ -120,6 +130,16 @@ module _ (rd : Reader) (m : ℕ) where
   before-most zero = omega arith
   before-most (suc c) =
       let less : before rd m c ≤ 21 * c = before-most c in let own : size rd (m + suc c) ≤ 21 = size-most rd (m + suc c) in omega arith
+
+  -- at most 21 for each rule node
+  before-rules : (c : ℕ) → before rd m c ≤ 21 * sumTo (oneRule 1 rd) (m + c)
+  unfolding before sumTo
+  before-rules zero = omega arith
+  before-rules (suc c) =
+      let same : m + suc c ≡ suc (m + c) = omega arith in
+      let split : sumTo (oneRule 1 rd) (m + suc c) ≡ oneRule 1 rd (m + suc c) + sumTo (oneRule 1 rd) (m + c) =
+      ap (sumTo (oneRule 1 rd)) same ∙ ap (λ (x : ℕ). oneRule 1 rd x + sumTo (oneRule 1 rd) (m + c)) (sym same) in
+      omega (arith, before-rules c, size-rules rd (m + suc c))
 
   -- a number below the sum falls into one summand
   record Falls (c q : ℕ) : Type 0 where
@@ -273,3 +293,8 @@ module _ (rd : Reader) (m n : ℕ) where
   -- so the derivation has room in 64 records for each of the proof's
   pub written-fits : 1 + written rd m n ≤ 64 * (n + 1)
   written-fits = let most : written rd m n ≤ 22 * n + 5 = written-most in omega arith
+
+  -- beside the proof's own records and five for the start, at most 21 for each rule node
+  pub written-rules : written rd m n ≤ n + 21 * sumTo (oneRule 1 rd) (m + n) + 5
+  unfolding written
+  written-rules = omega (arith, before-rules rd m n)

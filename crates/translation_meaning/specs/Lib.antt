@@ -2,4 +2,5 @@ pub mod Translates
 pub mod Statements
 pub mod Accepted
 pub mod Premises
+pub mod Length
 pub mod Theorems

@@ -1,14 +1,16 @@
 -- What is proved of the translation, for every two byte lists as obligation and proof, and every buffer. The proofs are in `Theorems`.
-use Prim.Native.Nat.{ℕ, _≤_}
+use Prim.Native.Nat.{ℕ, _+_, _*_, _≤_}
 use mathlib.Core.Path.{_≡_}
 use mathlib.Core.List.{List}
 use lib.ListN.{length, take}
 use Rattle.reader.specs.declared.Answer.{Answer}
 use Rattle.reader.specs.Answers.{accepted}
 use Rattle.reader.specs.Places.{countOf}
+use Rattle.reader_laws.specs.File.{beside}
 use Rattle.proof_rules.specs.Check.{proofAnswer}
 use Rattle.derivation_rules.specs.Check.{derivationAnswer}
 use Rattle.derivation_meaning.specs.Derivable.{DerivedByB}
+use Rattle.translation_rules.specs.Output.{written}
 use Rattle.translation_rules.specs.Bytes.{derivationBytes}
 use Rattle.translation_rules.specs.Check.{roomFor}
 use Rattle.translation_meaning.specs.Translates.{Translates}
@@ -37,3 +39,14 @@ abbrev pub TranslationMeans : Type 0
 TranslationMeans =
     (ob pf before after : List ℕ) (a : Answer) (len k : ℕ) → Translates ob pf before after a len →
     proofAnswer ob pf ≡ accepted k → roomFor (countOf pf) ≤ length before → Translated ob after a len k
+
+-- The derivation is its header and the records that `written` counts, 16 bytes each.
+abbrev pub TranslationLengthIs : Type 0
+TranslationLengthIs =
+    (ob pf : List ℕ) (k : ℕ) → proofAnswer ob pf ≡ accepted k →
+    length (derivationBytes ob pf) ≡ 16 * (1 + written (beside ob pf) (countOf ob) (countOf pf))
+
+-- The derivation has at most 21 records for each rule node walked, beside the proof's own and five for the start.
+abbrev pub TranslationLength : Type 0
+TranslationLength =
+    (ob pf : List ℕ) (k : ℕ) → proofAnswer ob pf ≡ accepted k → length (derivationBytes ob pf) ≤ 16 * (1 + countOf pf + 21 * k + 5)

@@ -1,5 +1,5 @@
 -- The translation of an accepted proof passes places 1 to 12 and its root derives the start: the proofs of the claims of `Statements`.
-use Prim.Native.Nat.{ℕ, zero, suc, _+_, _-_, _<_, _≤_}
+use Prim.Native.Nat.{ℕ, zero, suc, _+_, _<_, _≤_}
 use mathlib.Core.Path.{_≡_, refl, sym, ap, subst, _∙_}
 use mathlib.Core.List.{List, [], _∷_, map}
 use mathlib.Core.Bool.{Bool, true, false}
@@ -38,9 +38,10 @@ use Rattle.translation_derives.specs.Members.{one-more}
 use Rattle.translation_derives.specs.Nodes.{derives}
 use Rattle.translation_named.specs.Once.{named-once}
 use Rattle.translation_records.specs.Letters.{premise-below}
-use Rattle.translation_meaning.specs.Statements.{TranslationAccepted, TranslationB, TranslationMeans}
-use Rattle.translation_meaning.specs.Accepted.{obligation-read, proof-read, root-proves, sound, range, root-rule, formed, proved, tr, count-is, root-is, length-fits, counts-fit, output-all}
+use Rattle.translation_meaning.specs.Statements.{TranslationAccepted, TranslationB, TranslationMeans, TranslationLengthIs, TranslationLength}
+use Rattle.translation_meaning.specs.Accepted.{obligation-read, proof-read, root-proves, sound, range, root-rule, formed, proved, tr, count-is, root-is, bytes-are, length-fits, counts-fit, output-all}
 use Rattle.translation_meaning.specs.Premises.{proves-premised}
+use Rattle.translation_meaning.specs.Length.{length-most}
 
 -- a kind of 1 to 22, or 14, is no rule of a derivation
 low-kind : (k : ℕ) → k < 64 → isRule 2 k ≡ false
@@ -180,3 +181,9 @@ translation-means ob pf before after a len k t h room =
     let same : a ≡ accepted k = t .answers ∙ room-answer ob pf (length before) k h room in
     let p = t .derived (ap (λ (x : Answer). x .refusal) same) in
     record { same = same; count = p .0; checked = p .1; derivedByB = derivation-B ob (take len after) (p .0) (p .1) }
+
+pub translation-length-is : TranslationLengthIs
+translation-length-is ob pf k h = bytes-are ob pf k h
+
+pub translation-length : TranslationLength
+translation-length ob pf k h = length-most ob pf k h
