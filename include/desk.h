@@ -27,7 +27,7 @@ struct desk_answer {
 uint64_t desk_check_proof(const uint8_t *obligation, size_t obligation_length, const uint8_t *proof, size_t proof_length);
 
 /* The whole check of a derivation: refusals 1 to 18 but for 10 of its own records, or acceptance. It has its tables on the
- * stack, 4.4 MiB whatever the files: call it on a stack of at least 5 MiB. */
+ * stack, and calls itself for each node from the root on: 6.2 MiB at the greatest depth. Call it on a stack of 8 MiB. */
 uint64_t desk_check_derivation(const uint8_t *obligation, size_t obligation_length, const uint8_t *derivation, size_t derivation_length);
 
 /* The translation of an accepted proof into a derivation: the proof check's refusal; else 19, file 2, record 0 and all nodes, where

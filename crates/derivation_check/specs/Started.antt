@@ -1,9 +1,9 @@
 -- The start of the walk over a pair that passes places 1 to 12.
 use Prim.Native.Nat.{ℕ, zero, suc, _+_, _*_, _<_, _≤_}
 use mathlib.Core.Path.{_≡_, refl, sym, ap, _∙_}
-use mathlib.Core.List.{List, _++_}
-use mathlib.Core.Bool.{Bool, true, false}
-use lib.ListN.{getD, length, take, drop, replicate, length-replicate, length-append, length-take, length-drop}
+use mathlib.Core.List.{List}
+use mathlib.Core.Bool.{Bool, true, false, false≢true}
+use lib.ListN.{getD, length, take, replicate, length-replicate}
 use lib.Seq.{length-take-le}
 use native.Mathlib.Omega.{arith}
 use borrow.Author.Tests.{eq-eqb, ne-eqb}
@@ -14,9 +14,8 @@ use Rattle.reader.specs.Kinds.{isRule}
 use Rattle.reader.specs.Trees.{child}
 use Rattle.reader.specs.Chains.{linked}
 use Rattle.reader.specs.TreeLaws.{child-below}
-use Rattle.reader.specs.Answers.{orAnswer}
+use Rattle.reader.specs.Answers.{accepted, orAnswer}
 use Rattle.reader.specs.Places.{mostRecords, hypothesisChain, negatedGoal, countOf, rootOf, reading}
-use Rattle.reader_bodies.specs.Places.{Roomy}
 use Rattle.reader_chains.specs.Shapes.{first-tree, child-zero}
 use Rattle.reader_laws.specs.File.{ReadObligation, ReadSecond, beside, lastOf, reading-parts, length-parts, header-parts, counts-parts}
 use Rattle.reader_laws.specs.Parts.{bound-variable-first}
@@ -27,13 +26,13 @@ use Rattle.derivation_rules.specs.Check.{bareHypotheses, bareGoal, startState, 
 use Rattle.derivation_rules.specs.StartLaws.{bare-hypotheses}
 use Rattle.derivation_trees.specs.Keys.{decoded}
 use Rattle.derivation_trees.specs.Table.{Table, KeyOf}
-use Rattle.derivation_closedness.specs.Reaches.{Indexed, Reached}
+use Rattle.derivation_closedness.specs.Reaches.{Indexed, Reached, Unmarked}
 use Rattle.derivation_frames.specs.Frames.{goalAt, chainTrees, membersAt, stateOf, Framed, Written}
 use Rattle.derivation_frames.specs.Pushed.{members-set, framed-set}
-use Rattle.derivation_members.specs.Needs.{At}
 use Rattle.derivation_nodes.specs.Nodes.{Ready}
 use Rattle.derivation_nodes.specs.Premised.{chain-length}
 use Rattle.derivation_walk.specs.Walked.{visit}
+use Rattle.derivation_walk.specs.Turns.{Entering as Root}
 
 -- the keys are there, and the obligation's header names what it should
 pub record Starting (rd : Reader) (keys frames : List ℕ) : Type 0 where
@@ -50,11 +49,12 @@ pub record Started (rd : Reader) (size : ℕ) (before frames : List ℕ) : Type 
   pub framed : Framed rd size frames 1
   pub state : stateOf rd frames 1 ≡ startState rd
 
-pub formula-in : (rd : Reader) (keys frames : List ℕ) (negated formula : ℕ) → Starting rd keys frames → negated ≡ rd 0 3 → formula ≡ child rd negated 1 → formula < length keys
-formula-in rd keys frames zero formula s en ef = omega (arith, child-zero rd 1, s .goal)
-formula-in rd keys frames (suc negated) formula s en ef =
+-- the part of a formula that is named has a key, whichever it is
+pub formula-in : (rd : Reader) (keys frames : List ℕ) (negated formula w : ℕ) → Starting rd keys frames → negated ≡ rd 0 3 → formula ≡ child rd negated w → formula < length keys
+formula-in rd keys frames zero formula w s en ef = omega (arith, child-zero rd w, s .goal)
+formula-in rd keys frames (suc negated) formula w s en ef =
     let below : suc negated < length keys = rw en (s .goal) in
-    omega (arith, child-below rd (suc negated) 1 (omega arith))
+    omega (arith, child-below rd (suc negated) w (omega arith))
 
 pub root-written : (rd : Reader) (keys before after : List ℕ) (chain negated formula goal count : ℕ) → Starting rd keys before → chain ≡ rd 0 2 → negated ≡ rd 0 3 → formula ≡ child rd negated 1 →
     KeyOf rd (length keys) goal (bareTree rd formula) → count ≡ length (linked rd chain) → length after ≡ length before → Written 1 1 goal chain count before after →
@@ -78,15 +78,27 @@ root-written rd keys before after chain negated formula goal count s ec en ef ke
     goal-is = ap (decoded rd) (w .goal-is) ∙ key .stands .means ∙ rw (ef, en, first-tree rd (negatedGoal rd)) refl
 
 -- the pair passes places 1 to 12, and the tables have their lengths
-pub record Entering (ob s : List ℕ) (m : ℕ) (keys slots reaches frames marks ways : List ℕ) : Type 0 where
+pub record Entering (ob s : List ℕ) (m : ℕ) (keys reaches frames : List ℕ) : Type 0 where
   pub read : reading 2 ob s .refusal ≡ 0
   pub counted : m ≡ countOf ob
   pub all : length keys ≡ m + countOf s + 1
-  pub room : 406144 ≤ length slots
   pub far : length reaches ≡ m + countOf s + 1
   pub long : length frames ≡ 32776
-  pub wide : 201024 ≤ length marks
-  pub deep : length ways ≡ 24582
+
+-- what comes before the walk is done: the pair is read, or the keys are there
+pub record Prepared (ob s : List ℕ) (m : ℕ) (first : Bool) (r : Answer) (before keys : List ℕ) : Type 0 where
+  pub answers : first ≡ true → r ≡ reading 2 ob s
+  pub same : first ≡ true → keys ≡ before
+  pub accepts : first ≡ false → r ≡ accepted 0
+  pub table : first ≡ false → Table (word ob s m) keys
+
+pub prepared-read : (ob s : List ℕ) (m : ℕ) (first : Bool) (r : Answer) (keys : List ℕ) → first ≡ true → r ≡ reading 2 ob s → Prepared ob s m first r keys keys
+prepared-read ob s m first r keys h e =
+    record { answers = λ p. e; same = λ p. refl; accepts = λ p. absurd (false≢true (sym p ∙ h)); table = λ p. absurd (false≢true (sym p ∙ h)) }
+
+pub prepared-keys : (ob s : List ℕ) (m : ℕ) (first : Bool) (before keys : List ℕ) → first ≡ false → Table (word ob s m) keys → Prepared ob s m first (accepted 0) before keys
+prepared-keys ob s m first before keys h t =
+    record { answers = λ p. absurd (false≢true (sym h ∙ p)); same = λ p. absurd (false≢true (sym h ∙ p)); accepts = λ p. refl; table = λ p. t }
 
 -- Pairs that pass places 1 to 12.
 module _ (ob s : List ℕ) (read : reading 2 ob s .refusal ≡ 0) where
@@ -108,12 +120,9 @@ module _ (ob s : List ℕ) (read : reading 2 ob s .refusal ≡ 0) where
       omega (arith, a .2, b .1)
 
 -- The conditions of the calls of `walk_derivation`.
-module _ (ob s : List ℕ) (m : ℕ) (keys slots reaches frames marks ways : List ℕ) (enter : Entering ob s m keys slots reaches frames marks ways) where
+module _ (ob s : List ℕ) (m : ℕ) (keys reaches frames : List ℕ) (enter : Entering ob s m keys reaches frames) where
   pub enter-small : length keys ≤ 201024
   enter-small = omega (arith, enter .all, enter .counted, obligation-few ob s (enter .read), derivation-few ob s (enter .read))
-
-  pub enter-slots : (length keys ≤ 262143) × (4096 + 2 * length keys ≤ length slots)
-  enter-slots = (omega (arith, enter-small), omega (arith, enter-small, enter .room))
 
   enter-last : length keys ≡ lastOf ob s + 1
   enter-last = omega (arith, enter .all, enter .counted)
@@ -133,17 +142,6 @@ module _ (ob s : List ℕ) (m : ℕ) (keys slots reaches frames marks ways : Lis
         few = rw same-reader (pair-hypotheses-limit 2 ob s (p .0) (p .1));
       }
 
-  pub enter-at : (table before after : List ℕ) (root : ℕ) → length table ≡ length keys → Table (word ob s m) table → Started (word ob s m) (length table) before after →
-      root ≡ wordOf s 0 2 → At (word ob s m) table after 1 root
-  enter-at table before after root l n started e =
-      let p = both-read ob s (enter .read) in
-      record {
-        table = n;
-        small = omega (arith, enter-small);
-        framed = started .framed;
-        within = omega (arith, enter-last, root-range 2 ob s (p .0) (p .1) .1);
-      }
-
   pub enter-indexed : Indexed (word ob s m) (length reaches)
   enter-indexed = rw same-reader (record { low = λ i h e. go i h e })
     where
@@ -154,14 +152,14 @@ module _ (ob s : List ℕ) (m : ℕ) (keys slots reaches frames marks ways : Lis
           let last : suc i ≤ lastOf ob s = omega (arith, enter .far, enter .counted) in
           bound-variable-first 2 (beside ob s) (suc i) (pair-sound 2 ob s (p .0) (p .1) (suc i) (omega arith) last) e
 
-  pub enter-ready : (table reached : List ℕ) → length table ≡ length keys → length reached ≡ length reaches → Table (word ob s m) table → Reached (word ob s m) reached (length reached) →
-      Ready (word ob s m) table reached marks
+  pub enter-ready : (table reached : List ℕ) → length table ≡ length keys → length reached ≡ length reaches → Table (word ob s m) table →
+      Reached (word ob s m) reached (length reached) × Unmarked reached → Ready (word ob s m) table reached
   enter-ready table reached l k n r = record {
-    tables = record { table = n; room = omega (arith, enter .all, enter .far); reached = r };
-    marks-long = omega (arith, enter-small, enter .wide);
+    tables = record { table = n; room = omega (arith, enter .all, enter .far); reached = r .0 };
+    unmarked = r .1;
   }
 
-  pub enter-header : isRule 2 (word ob s m 0 0) ≡ false
+  enter-header : isRule 2 (word ob s m 0 0) ≡ false
   enter-header = rw same-reader (go (isRule 2 (beside ob s 0 0)) refl)
     where
       go : (v : Bool) → isRule 2 (beside ob s 0 0) ≡ v → v ≡ false
@@ -170,16 +168,23 @@ module _ (ob s : List ℕ) (m : ℕ) (keys slots reaches frames marks ways : Lis
           absurd (omega (arith, rule-range 2 ob s (p .0) (p .1) 0 e .0))
       go false e = refl
 
-  pub enter-root : (root : ℕ) → root ≡ wordOf s 0 2 → 0 < root
-  enter-root root e =
-      let p = both-read ob s (enter .read) in
-      omega (arith, root-range 2 ob s (p .0) (p .1) .0)
-
-  pub enter-count : (root : ℕ) → root ≡ wordOf s 0 2 → under 2 (word ob s m) root ≤ 4294967296
-  enter-count root e =
+  -- the root is to be entered
+  pub enter-root : (table before after : List ℕ) (root : ℕ) → length table ≡ length keys → Table (word ob s m) table → Started (word ob s m) (length table) before after →
+      root ≡ wordOf s 0 2 → Root (word ob s m) table after 1 root 0
+  enter-root table before after root l n started e =
       let p = both-read ob s (enter .read) in
       let most : under 2 (beside ob s) (rootOf s) ≤ countOf s = root-under 2 ob s (p .0) (p .1) in
-      rw (e, same-reader) (omega (arith, derivation-few ob s (enter .read)))
+      record {
+        here = record {
+          table = n;
+          small = omega (arith, enter-small);
+          framed = started .framed;
+          within = omega (arith, enter-last, root-range 2 ob s (p .0) (p .1) .1);
+        };
+        header = enter-header;
+        rule = rw (e, same-reader) (p .1 .root);
+        few = rw (e, same-reader) (omega (arith, derivation-few ob s (enter .read)));
+      }
 
 pub walked-from : (rd : Reader) (size : ℕ) (s before after : List ℕ) (root : ℕ) (r : Answer) → root ≡ wordOf s 0 2 → Started rd size before after →
     r ≡ visit rd root (stateOf rd after 1) 0 → r ≡ derivationWalk rd (rootOf s)
@@ -203,10 +208,10 @@ module _ (ob s : List ℕ) (a : Answer) (ea : a ≡ reading 2 ob s) where
     pub counts-few : (m n : ℕ) → m ≡ wordOf ob 0 1 → n ≡ wordOf s 0 1 → m + n + 1 ≤ 201024
     counts-few m n em en = omega (arith, obligation-few ob s check-read, derivation-few ob s check-read)
 
-    pub entering : (m n size : ℕ) (keys slots reaches frames marks ways : List ℕ) → m ≡ wordOf ob 0 1 → n ≡ wordOf s 0 1 → size ≡ m + n + 1 → length keys ≡ size →
-        406144 ≤ length slots → length reaches ≡ size → length frames ≡ 32776 → 201024 ≤ length marks → length ways ≡ 24582 → Entering ob s m keys slots reaches frames marks ways
-    entering m n size keys slots reaches frames marks ways em en es l r f k w d =
-        record { read = check-read; counted = em; all = l ∙ es ∙ rw en refl; room = r; far = f ∙ es ∙ rw en refl; long = k; wide = w; deep = d }
+    pub entering : (m n size : ℕ) (keys reaches frames : List ℕ) → m ≡ wordOf ob 0 1 → n ≡ wordOf s 0 1 → size ≡ m + n + 1 → length keys ≡ size →
+        length reaches ≡ size → length frames ≡ 32776 → Entering ob s m keys reaches frames
+    entering m n size keys reaches frames em en es l f k =
+        record { read = check-read; counted = em; all = l ∙ es ∙ rw en refl; far = f ∙ es ∙ rw en refl; long = k }
 
 -- the part of a table that the walk is lent
 pub prefix-length : (k : ℕ) (table : List ℕ) (n : ℕ) → k ≤ n → n ≤ length table → length (take k table) ≡ k
@@ -217,12 +222,3 @@ pub part-length : (k : ℕ) → k ≤ 201024 → length {A = ℕ} (take k (repli
 part-length k h =
     let long : length {A = ℕ} (replicate 201024 0) ≡ 201024 = length-replicate {A = ℕ} 201024 0 in
     prefix-length k (replicate 201024 0) 201024 h (rw long (omega arith))
-
--- a table whose first part was lent and came back
-pub joined-length : (k : ℕ) (part table first : List ℕ) → length part ≡ length (take k table) → length table ≡ length first → length (part ++ drop k table) ≡ length first
-joined-length k part table first p t = omega (arith, length-append part (drop k table), length-drop k table, length-take k table)
-
--- the lengths of the tables that the reading was lent
-pub lent-lengths : (slots weights named passed : List ℕ) → Roomy 2 slots weights named passed → (406144 ≤ length slots) × (201024 ≤ length named) × (201024 ≤ length passed)
-unfolding mostRecords ifEq
-lent-lengths slots weights named passed room = (omega (arith, room .symbols), omega (arith, room .names), omega (arith, room .links))

@@ -7,98 +7,87 @@ use reader::Answer;
 use reader::words;
 use reader_places::places;
 ghost use mathlib.Core.Path.{_≡_};
+ghost use mathlib.Core.Bool.{Bool};
+ghost use Prim.Native.Nat.{_≤_};
+ghost use lib.ListN.{length};
 ghost use Rattle.reader.specs.declared.Answer.{Answer};
 ghost use Rattle.reader.specs.Words.{word};
 ghost use Rattle.reader.specs.Places.{rootOf};
-ghost use Rattle.reader_equality.specs.Tables.{Zeros};
-ghost use Rattle.reader_naming.specs.Totals.{Cleared};
-ghost use Rattle.reader_bodies.specs.Places.{Blank, Roomy};
 ghost use Rattle.derivation_rules.specs.Check.{derivationWalk, derivationAnswer};
-ghost use Rattle.derivation_check.specs.Started.{Entering};
+ghost use Rattle.derivation_trees.specs.Table.{Table};
+ghost use Rattle.derivation_check.specs.Started.{Entering, Prepared};
 
-// The walk over a pair that passes places 1 to 12. The weights only say in which order parts are compared; the other tables are scratch.
+// Fills the table of keys. The slots are needed here alone.
+fn key_records(obligation: &[u8], derivation: &[u8], m: usize, keys: &mut [usize])
+    requires { ⌜ length (now keys) ≤ 201024 ⌝ }
+    ensures { λ _. ⌜ Table (word (now (obligation .entry)) (now (derivation .entry)) m) (now (keys .exit)) ⌝ }
+{
+    let mut slots = [0u32; 406144];
+    fill::key_all(obligation, derivation, m, keys, &mut slots);
+}
+
+// What comes before the walk and needs large tables: places 1 to 12, or the table of keys. One function for both, called at two places: the compiler
+// puts one that is called at one place into its caller, and these tables, 2.4 MB, would then stand beside the walk's stack.
+fn prepare(
+    obligation: &[u8],
+    derivation: &[u8],
+    m: usize,
+    keys: &mut [usize],
+    reading: bool,
+) -> Answer
+    requires { ⌜ length (now keys) ≤ 201024 ⌝ }
+    ensures { λ r. ⌜ Prepared (now (obligation .entry)) (now (derivation .entry)) m reading r (now (keys .entry)) (now (keys .exit)) ⌝ }
+{
+    if reading {
+        return places::read_derivation(obligation, derivation);
+    }
+    key_records(obligation, derivation, m, keys);
+    Answer {
+        refusal: 0,
+        file: 0,
+        at: 0,
+        nodes: 0,
+    }
+}
+
+// The walk over a pair that passes places 1 to 12. The tables are scratch.
 fn walk_derivation(
     obligation: &[u8],
     derivation: &[u8],
     m: usize,
     keys: &mut [usize],
-    slots: &mut [u32],
-    reaches: &mut [u8],
-    weights: &[u16],
+    reaches: &mut [u16],
     frames: &mut [usize],
-    marks: &mut [u8],
-    ways: &mut [usize],
 ) -> Answer
-    requires { ⌜ Entering (now obligation) (now derivation) m (now keys) (now slots) (now reaches) (now frames) (now marks) (now ways) ⌝ }
+    requires { ⌜ Entering (now obligation) (now derivation) m (now keys) (now reaches) (now frames) ⌝ }
     ensures { λ r. ⌜ r ≡ derivationWalk (word (now (obligation .entry)) (now (derivation .entry)) m) (rootOf (now (derivation .entry))) ⌝ }
 {
-    fill::key_all(obligation, derivation, m, keys, slots);
+    prepare(obligation, derivation, m, keys, false);
     closed::reach_all(obligation, derivation, m, reaches);
     start::store_start(obligation, derivation, m, keys, frames);
     let root = words::word_of(derivation, 0, 2);
-    walk::walk(
-        obligation,
-        derivation,
-        m,
-        keys,
-        reaches,
-        weights,
-        frames,
-        marks,
-        ways,
-        root,
-    )
-}
-
-// The answer by tables that are lent: those of the reading serve the walk as well.
-fn check_in(
-    obligation: &[u8],
-    derivation: &[u8],
-    slots: &mut [u32],
-    weights: &mut [u16],
-    reaches: &mut [u8],
-    marks: &mut [u8],
-) -> Answer
-    requires { ⌜ Roomy 2 (now slots) (now weights) (now reaches) (now marks) × Zeros (now slots) × Blank (now weights) × Cleared (now reaches) × Cleared (now marks) ⌝ }
-    ensures { λ r. ⌜ r ≡ derivationAnswer (now (obligation .entry)) (now (derivation .entry)) ⌝ }
-{
-    let r = places::derivation_reading(obligation, derivation, slots, weights, reaches, marks);
-    if r.refusal != 0 {
-        return r;
-    }
-    let m = words::word_of(obligation, 0, 1);
-    let size = m + words::word_of(derivation, 0, 1) + 1;
-    let mut keys = [0usize; 201024];
-    let mut frames = [0usize; 32776];
-    let mut ways = [0usize; 24582];
-    walk_derivation(
-        obligation,
-        derivation,
-        m,
-        &mut keys[..size],
-        slots,
-        &mut reaches[..size],
-        weights,
-        &mut frames,
-        marks,
-        &mut ways,
-    )
+    walk::walk(obligation, derivation, m, keys, reaches, frames, root)
 }
 
 // The answer to an obligation and a derivation, any two byte areas.
 pub fn check_derivation(obligation: &[u8], derivation: &[u8]) -> Answer
     ensures { λ r. ⌜ r ≡ derivationAnswer (now (obligation .entry)) (now (derivation .entry)) ⌝ }
 {
-    let mut slots = [0u32; 406144];
-    let mut weights = [0u16; 201024];
-    let mut reaches = [0u8; 201024];
-    let mut marks = [0u8; 201024];
-    check_in(
+    let mut keys = [0usize; 201024];
+    let r = prepare(obligation, derivation, 0, &mut keys, true);
+    if r.refusal != 0 {
+        return r;
+    }
+    let m = words::word_of(obligation, 0, 1);
+    let size = m + words::word_of(derivation, 0, 1) + 1;
+    let mut reaches = [0u16; 201024];
+    let mut frames = [0usize; 32776];
+    walk_derivation(
         obligation,
         derivation,
-        &mut slots,
-        &mut weights,
-        &mut reaches,
-        &mut marks,
+        m,
+        &mut keys[..size],
+        &mut reaches[..size],
+        &mut frames,
     )
 }

@@ -1,3 +1,3 @@
 // The derivation check: any two byte areas get the four numbers of the definition.
 pub mod check;
-pub mod start;
+mod start;

@@ -1,11 +1,11 @@
 -- Marks of the records that a constant is in, types removed, and the ways out of the code that makes and reads them.
-use Prim.Native.Nat.{ℕ, zero, suc, _+_, _-_, _%_, _<_, _≤_}
+use Prim.Native.Nat.{ℕ, zero, suc, _+_, _*_, _-_, _/_, _%_, _<_, _≤_}
 use mathlib.Core.Path.{_≡_, refl, sym, _∙_}
 use mathlib.Core.List.{List}
 use mathlib.Core.Bool.{Bool, true, false}
 use lib.Dec.{eqb, ltb}
 use lib.ListN.{length, getD, set}
-use lib.Seq.{getD-set-same, getD-set-other}
+use lib.Seq.{getD-set-same, getD-set-other, ext-getD}
 use native.Mathlib.Omega.{arith}
 use borrow.Author.Tests.{eq-eqb, ne-eqb, eqb-true, eqb-false, ltb-true, ltb-false}
 use Rattle.reader.specs.Words.{Reader}
@@ -18,28 +18,27 @@ use Rattle.reader_equality.specs.Keys.{partAt, part-below}
 use Rattle.derivation_rules.specs.Erase.{bareTree}
 use Rattle.derivation_trees.specs.Erased.{bare-zero, bare-true, bare-all, bare-node}
 use Rattle.derivation_trees.specs.Keys.{negationsOf, bodyOf, bodyTree, negate, decoded, by-body, body-none, body-bottom, body-record}
+use Rattle.derivation_closedness.specs.Reaches.{Unmarked}
 
 -- the mark of a record: 1 where the constant is in it
 unfoldable pub markOf : Bool → ℕ
 markOf b = elim b [ true ↦ 1 | false ↦ 0 ]
 
 -- the table has the marks of the records from c on that are below n
-pub record Marked (rd : Reader) (c : ℕ) (marks : List ℕ) (n : ℕ) : Type 0 where
-  pub holds : (j : ℕ) → c ≤ j → j < n → getD marks j 0 ≡ markOf (occurs c (bareTree rd j))
+pub record Marked (rd : Reader) (c : ℕ) (reaches : List ℕ) (n : ℕ) : Type 0 where
+  pub holds : (j : ℕ) → c ≤ j → j < n → getD reaches j 0 / 128 % 2 ≡ markOf (occurs c (bareTree rd j))
 
--- the marks before c and from n on stayed
-pub record Unmarked (c n : ℕ) (before marks : List ℕ) : Type 0 where
-  pub below : (j : ℕ) → j < c → getD marks j 0 ≡ getD before j 0
-  pub above : (j : ℕ) → n ≤ j → getD marks j 0 ≡ getD before j 0
+-- entry v of record j with its mark, and an entry without one
+unfoldable pub withMark : Reader → ℕ → ℕ → ℕ → ℕ
+withMark rd c j v = v + 128 * markOf (occurs c (bareTree rd j))
 
-pub unmarked-start : (c n : ℕ) (marks : List ℕ) → Unmarked c n marks marks
-unmarked-start c n marks = record { below = λ j h. refl; above = λ j h. refl }
+unfoldable pub withoutMark : ℕ → ℕ → ℕ
+withoutMark j v = v - 128 * (v / 128 % 2)
 
-pub unmarked-more : (c n j v : ℕ) (before marks : List ℕ) → c ≤ j → j < n → Unmarked c n before marks → Unmarked c n before (set marks j v)
-unmarked-more c n j v before marks p h u = record {
-  below = λ i q. getD-set-other marks j i v 0 (λ z. omega arith) ∙ u .below i q;
-  above = λ i q. getD-set-other marks j i v 0 (λ z. omega arith) ∙ u .above i q;
-}
+-- the entries from c on that are below n are changed, and no others
+pub record Changed (change : ℕ → ℕ → ℕ) (c n : ℕ) (before after : List ℕ) : Type 0 where
+  pub inside : (j : ℕ) → c ≤ j → j < n → getD after j 0 ≡ change j (getD before j 0)
+  pub outside : (j : ℕ) → (c ≤ j → j < n → ⊥) → getD after j 0 ≡ getD before j 0
 
 -- record j is the constant c
 unfoldable pub constantAt : Reader → ℕ → ℕ → Bool
@@ -119,8 +118,8 @@ module _ (rd : Reader) (c x : ℕ) where
   pub mark-low : x < c → false ≡ occurs c (bareTree rd x)
   mark-low h = sym (occurs-below rd c x h)
 
-  pub mark-high : (n : ℕ) (marks : List ℕ) → c ≤ x → x < n → Marked rd c marks n → eqb (getD marks x 0) 1 ≡ occurs c (bareTree rd x)
-  mark-high n marks h p marked = rw (marked .holds x h p) (mark-bit (occurs c (bareTree rd x)))
+  pub mark-high : (n : ℕ) (reaches : List ℕ) → c ≤ x → x < n → Marked rd c reaches n → eqb (getD reaches x 0 / 128 % 2) 1 ≡ occurs c (bareTree rd x)
+  mark-high n reaches h p marked = rw (marked .holds x h p) (mark-bit (occurs c (bareTree rd x)))
 
   pub mark-part : (j w : ℕ) (r : Bool) → x ≡ partAt rd false j w → r ≡ occurs c (bareTree rd x) → r ≡ partMarked rd c j w
   unfolding partMarked
@@ -169,32 +168,78 @@ pub in-none : (rd : Reader) (c j : ℕ) → j ≡ 0 → false ≡ occurs c (bare
 unfolding occurs
 in-none rd c j h = rw (h, bare-zero rd) refl
 
--- The ways out of `mark_of`.
-pub mark-yes : (a t : Bool) → t ≡ a → t ≡ true → 1 ≡ markOf a
+-- The ways out of `marked_entry`.
+module _ (rd : Reader) (c j v : ℕ) (t : Bool) (e : t ≡ occurs c (bareTree rd j)) where
+  pub entry-yes : t ≡ true → v + 128 ≡ withMark rd c j v
+  unfolding withMark markOf
+  entry-yes h = simp (← e, h)
+
+  pub entry-no : t ≡ false → v ≡ withMark rd c j v
+  unfolding withMark markOf
+  entry-no h = simp (← e, h) (omega arith)
+
+-- The loops: one entry more is changed.
+module _ (change : ℕ → ℕ → ℕ) (c : ℕ) (before : List ℕ) where
+  pub changed-none : Changed change c c before before
+  changed-none = record { inside = λ j p q. absurd (omega arith); outside = λ j h. refl }
+
+  pub changed-more : (j v : ℕ) (after : List ℕ) → j < length after → c ≤ j → Changed change c j before after → v ≡ change j (getD after j 0) →
+      Changed change c (j + 1) before (set after j v)
+  changed-more j v after room p changed e = record { inside = λ i q r. go i q r (ltb i j) refl; outside = λ i h. other i h }
+    where
+      go : (i : ℕ) → c ≤ i → i < j + 1 → (b : Bool) → ltb i j ≡ b → getD (set after j v) i 0 ≡ change i (getD before i 0)
+      go i q r true t = let less : i < j = ltb-true i j t in getD-set-other after j i v 0 (omega arith) ∙ changed .inside i q less
+      go i q r false t =
+          let one : i ≡ j = omega (arith, ltb-false i j t) in
+          rw (one, getD-set-same after j v 0 room, ← changed .outside j (λ x y. omega arith)) e
+
+      other : (i : ℕ) → (c ≤ i → i < j + 1 → ⊥) → getD (set after j v) i 0 ≡ getD before i 0
+      other i h =
+          getD-set-other after j i v 0 (λ z. h (omega arith) (omega arith)) ∙ changed .outside i (λ x y. h x (omega arith))
+
+  -- the loop goes no further than n, and not at all where n is below c
+  pub changed-end : (j n : ℕ) (after : List ℕ) → n ≤ j → j - c ≤ n - c → Changed change c j before after → Changed change c n before after
+  changed-end j n after h most changed = record {
+    inside = λ i p q. changed .inside i p (omega arith);
+    outside = λ i other. changed .outside i (λ p q. other p (omega arith));
+  }
+
+-- Where there were no marks, those that the loop makes are the table's, and taken off again they leave the table as it was.
+mark-back : (v m : ℕ) → v % 256 < 128 → m < 2 → ((v + 128 * m) / 128 % 2 ≡ m) × (v + 128 * m - 128 * m ≡ v)
+mark-back v m h p = (omega arith, omega arith)
+
+mark-small : (b : Bool) → markOf b < 2
 unfolding markOf
-mark-yes a t e h = simp (← e, h)
+mark-small true = omega arith
+mark-small false = omega arith
 
-pub mark-no : (a t : Bool) → t ≡ a → t ≡ false → 0 ≡ markOf a
-unfolding markOf
-mark-no a t e h = simp (← e, h)
+module _ (rd : Reader) (c n : ℕ) (before marked : List ℕ) (unmarked : Unmarked before) (marks : Changed (withMark rd c) c n before marked) where
+  pub next-unmarked : getD marked n 0 % 256 < 128
+  next-unmarked = rw (marks .outside n (λ p q. omega arith)) (unmarked .none n)
 
--- The table with one mark more.
-pub marked-start : (rd : Reader) (c : ℕ) (marks : List ℕ) → Marked rd c marks c
-marked-start rd c marks = record { holds = λ j p q. absurd (omega arith) }
+  pub changed-marked : Marked rd c marked n
+  unfolding withMark
+  changed-marked = record {
+    holds = λ j p q. rw (marks .inside j p q) (mark-back (getD before j 0) (markOf (occurs c (bareTree rd j))) (unmarked .none j) (mark-small (occurs c (bareTree rd j))) .0);
+  }
 
-pub marked-more : (rd : Reader) (c j n v : ℕ) (before marks : List ℕ) → length marks ≡ length before → n ≤ length before → j < n →
-    Marked rd c marks j → v ≡ markOf (occurs c (bareTree rd j)) → Marked rd c (set marks j v) (j + 1)
-marked-more rd c j n v before marks l room within marked e = record { holds = λ i q r. go i q r (ltb i j) refl }
-  where
-    p : j < length marks
-    p = omega arith
+  pub marks-off : (after : List ℕ) → length after ≡ length before → Changed withoutMark c n marked after → after ≡ before
+  unfolding withMark withoutMark
+  marks-off after long off = ext-getD 0 after before long (λ j h. by-start j (ltb j c) refl)
+    where
+      same : (j : ℕ) → (c ≤ j → j < n → ⊥) → getD after j 0 ≡ getD before j 0
+      same j h = off .outside j h ∙ marks .outside j h
 
-    go : (i : ℕ) → c ≤ i → i < j + 1 → (b : Bool) → ltb i j ≡ b → getD (set marks j v) i 0 ≡ markOf (occurs c (bareTree rd i))
-    go i q r true t = let less : i < j = ltb-true i j t in getD-set-other marks j i v 0 (omega arith) ∙ marked .holds i q less
-    go i q r false t = let one : i ≡ j = omega (arith, ltb-false i j t) in rw one (getD-set-same marks j v 0 p ∙ e)
+      by-end : (j : ℕ) → c ≤ j → (b : Bool) → ltb j n ≡ b → getD after j 0 ≡ getD before j 0
+      by-end j p true e =
+          let h : j < n = ltb-true j n e in
+          let back = mark-back (getD before j 0) (markOf (occurs c (bareTree rd j))) (unmarked .none j) (mark-small (occurs c (bareTree rd j))) in
+          rw (off .inside j p h, marks .inside j p h, back .0) (back .1)
+      by-end j p false e = same j (λ q h. omega (arith, ltb-false j n e))
 
-pub marked-end : (rd : Reader) (c j n : ℕ) (marks : List ℕ) → n ≤ j → Marked rd c marks j → Marked rd c marks n
-marked-end rd c j n marks h marked = record { holds = λ i p q. marked .holds i p (omega arith) }
+      by-start : (j : ℕ) (b : Bool) → ltb j c ≡ b → getD after j 0 ≡ getD before j 0
+      by-start j true e = same j (λ q h. omega (arith, ltb-true j c e))
+      by-start j false e = by-end j (ltb-false j c e) (ltb j n) refl
 
 -- The ways out of `key_marked`.
 occurs-not : (c : ℕ) (t : Tree) → occurs c (¬ᵗ t) ≡ occurs c t

@@ -1,10 +1,10 @@
 -- The table of reaches, and the ways out of the code that fills and reads it.
-use Prim.Native.Nat.{ℕ, zero, suc, _+_, _-_, _%_, _<_, _≤_}
+use Prim.Native.Nat.{ℕ, zero, suc, _+_, _*_, _-_, _%_, _<_, _≤_}
 use mathlib.Core.Path.{_≡_, refl, sym, _∙_}
 use mathlib.Core.List.{List}
 use mathlib.Core.Bool.{Bool, true, false}
 use lib.Dec.{eqb, ltb, leb}
-use lib.ListN.{length, getD, set}
+use lib.ListN.{length, getD, set, List·getD-eq-default}
 use lib.Seq.{getD-set-same, getD-set-other}
 use native.Mathlib.Omega.{arith}
 use borrow.Author.Tests.{eqb-true, eqb-false, ltb-true, ltb-false, le-ltb}
@@ -15,7 +15,7 @@ use Rattle.reader.specs.TreeLaws.{child-below}
 use Rattle.reader.specs.Variables.{binders, indicesBelow}
 use Rattle.reader_closedness.specs.Reaches.{variable-index, own-none, own-variable}
 use Rattle.reader_closedness.specs.Reach.{larger, variable, crossed, ownReach, reach, indices-reach}
-use Rattle.reader_equality.specs.Keys.{partAt, partEntry, part-below}
+use Rattle.reader_equality.specs.Keys.{partAt, part-below}
 use Rattle.derivation_rules.specs.Erase.{bareTree}
 use Rattle.derivation_trees.specs.Erased.{bare-zero, bare-true, bare-all, bare-node}
 use Rattle.derivation_trees.specs.Keys.{negationsOf, bodyOf, bodyTree, negate, decoded, Normal, by-body, body-none, body-bottom, body-record}
@@ -28,40 +28,64 @@ pub record Indexed (rd : Reader) (n : ℕ) : Type 0 where
 pub indexed-as : (rd : Reader) (n k : ℕ) → k ≡ n → Indexed rd n → Indexed rd k
 indexed-as rd n k e h = rw e h
 
--- the table has the reaches of the records below n
+-- the table has the reaches of the records below n: an entry is reach + 128 * mark + 256 * order, where the order only says in which order parts are compared
 pub record Reached (rd : Reader) (reaches : List ℕ) (n : ℕ) : Type 0 where
-  pub holds : (i : ℕ) → i < n → getD reaches i 0 ≡ reach false (bareTree rd i)
+  pub holds : (i : ℕ) → i < n → getD reaches i 0 % 128 ≡ reach false (bareTree rd i)
 
--- the reach of a node, by what the table says of its parts
-unfoldable pub nodeReach : Reader → List ℕ → ℕ → ℕ
-nodeReach rd reaches i =
-    larger (ownReach false (rd i 0) (atom rd i))
-    (larger (partEntry rd false reaches i 1) (larger (partEntry rd false reaches i 2 - crossed false (rd i 0)) (partEntry rd false reaches i 3)))
+-- no entry has a mark
+pub record Unmarked (reaches : List ℕ) : Type 0 where
+  pub none : (i : ℕ) → getD reaches i 0 % 256 < 128
 
--- the reach that the code puts together
-pub node-made : (rd : Reader) (reaches : List ℕ) (i k own x y z u p q r : ℕ) → k ≡ rd i 0 → own ≡ ownReach false k (atom rd i) →
-    x ≡ partEntry rd false reaches i 1 → y ≡ partEntry rd false reaches i 2 → z ≡ partEntry rd false reaches i 3 →
-    u ≡ y - crossed false k → p ≡ larger u z → q ≡ larger x p → r ≡ larger own q → r ≡ nodeReach rd reaches i
+-- an entry of record i without a mark
+pub record EntryOf (rd : Reader) (i v : ℕ) : Type 0 where
+  pub reached : v % 128 ≡ reach false (bareTree rd i)
+  pub unmarked : v % 256 < 128
+
+-- the reach of part w of record i
+unfoldable pub partReach : Reader → ℕ → ℕ → ℕ
+partReach rd i w = reach false (bareTree rd (partAt rd false i w))
+
+-- the reach of a node, by those of its parts
+unfoldable pub nodeReach : Reader → ℕ → ℕ
+nodeReach rd i =
+    larger (ownReach false (rd i 0) (atom rd i)) (larger (partReach rd i 1) (larger (partReach rd i 2 - crossed false (rd i 0)) (partReach rd i 3)))
+
+-- from a record to a smaller one that it refers to, where the measure is three times the record's number, and two more at the callee
+pub part-falls : (rd : Reader) (i w x t : ℕ) → 3 * i ≡ t → 0 < i → x ≡ partAt rd false i w → 3 * x + 2 < t
+part-falls rd i w x t e p q = omega (arith, part-below rd false i w p)
+
+pub child-falls : (rd : Reader) (i w x t : ℕ) → 3 * i + 2 ≡ t → (i ≡ 0 → ⊥) → x ≡ child rd i w → 3 * x + 2 < t
+child-falls rd i w x t e p q = omega (arith, child-below rd i w (omega arith))
+
+-- The ways out of the recursion: the table has the records below n, or else the parts are put together.
+pub part-is : (rd : Reader) (i w x r : ℕ) → x ≡ partAt rd false i w → r ≡ reach false (bareTree rd x) → r ≡ partReach rd i w
+unfolding partReach
+part-is rd i w x r ex er = rw (← ex) er
+
+pub node-made : (rd : Reader) (i k own x y z u p q r : ℕ) → k ≡ rd i 0 → own ≡ ownReach false k (atom rd i) →
+    x ≡ partReach rd i 1 → y ≡ partReach rd i 2 → z ≡ partReach rd i 3 →
+    u ≡ y - crossed false k → p ≡ larger u z → q ≡ larger x p → r ≡ larger own q → r ≡ nodeReach rd i
 unfolding nodeReach
-node-made rd reaches i k own x y z u p q r ek eo ex ey ez eu ep eq er = rw (← ek, ← eo, ← ex, ← ey, ← ez, ← eu, ← ep, ← eq) er
+node-made rd i k own x y z u p q r ek eo ex ey ez eu ep eq er = rw (← ek, ← eo, ← ex, ← ey, ← ez, ← eu, ← ep, ← eq) er
 
--- The ways out of `reach_of`.
-module _ (rd : Reader) (i k : ℕ) (p : 0 < i) (ek : k ≡ rd i 0) where
+pub reach-known : (rd : Reader) (reaches : List ℕ) (n i r : ℕ) → Reached rd reaches n → i < n → r ≡ getD reaches i 0 % 128 → r ≡ reach false (bareTree rd i)
+reach-known rd reaches n i r t h e = e ∙ t .holds i h
+
+pub reach-none : (rd : Reader) (i : ℕ) → i ≡ 0 → 0 ≡ reach false (bareTree rd i)
+unfolding reach
+reach-none rd i h = rw (h, bare-zero rd) refl
+
+module _ (rd : Reader) (i k : ℕ) (p : i ≡ 0 → ⊥) (ek : k ≡ rd i 0) where
   pub reach-true : k ≡ 15 → 0 ≡ reach false (bareTree rd i)
   unfolding reach larger ownReach variable crossed binders ifEq ifLt ifTrue
-  reach-true h = rw (bare-true rd i p (sym ek ∙ h)) refl
+  reach-true h = rw (bare-true rd i (omega arith) (sym ek ∙ h)) refl
 
-  pub reach-all : (reaches : List ℕ) (x r : ℕ) → k ≡ 22 → Reached rd reaches i → x ≡ child rd i 2 → r ≡ getD reaches x 0 → r ≡ reach false (bareTree rd i)
-  reach-all reaches x r h reached ex er =
-      let low : x < i = omega (arith, child-below rd i 2 p) in
-      rw (bare-all rd i p (sym ek ∙ h), ← ex) (er ∙ reached .holds x low)
+  pub reach-all : (x r : ℕ) → k ≡ 22 → x ≡ child rd i 2 → r ≡ reach false (bareTree rd x) → r ≡ reach false (bareTree rd i)
+  reach-all x r h ex er = rw (bare-all rd i (omega arith) (sym ek ∙ h), ← ex) er
 
-  pub reach-node : (reaches : List ℕ) (r : ℕ) → (k ≡ 15 → ⊥) → (k ≡ 22 → ⊥) → Reached rd reaches i → r ≡ nodeReach rd reaches i → r ≡ reach false (bareTree rd i)
-  unfolding reach nodeReach partEntry
-  reach-node reaches r no-true no-all reached er =
-      let part : (w : ℕ) → getD reaches (partAt rd false i w) 0 ≡ reach false (bareTree rd (partAt rd false i w)) =
-      λ w. reached .holds (partAt rd false i w) (part-below rd false i w p) in
-      rw (bare-node rd i p (λ h. no-true (ek ∙ h)) (λ h. no-all (ek ∙ h)), ← part 1, ← part 2, ← part 3) er
+  pub reach-node : (r : ℕ) → (k ≡ 15 → ⊥) → (k ≡ 22 → ⊥) → r ≡ nodeReach rd i → r ≡ reach false (bareTree rd i)
+  unfolding reach nodeReach partReach
+  reach-node r no-true no-all er = rw (bare-node rd i (omega arith) (λ h. no-true (ek ∙ h)) (λ h. no-all (ek ∙ h))) er
 
 -- Where indices are below 64, no reach is more than 64, which fits an entry.
 larger-most : (a b n : ℕ) → a ≤ n → b ≤ n → larger a b ≤ n
@@ -88,7 +112,7 @@ module _ (rd : Reader) (n : ℕ) (indexed : Indexed rd n) where
   reach-step i p h part = go (eqb (rd i 0) 15) refl (eqb (rd i 0) 22) refl
     where
       go : (b : Bool) → eqb (rd i 0) 15 ≡ b → (c : Bool) → eqb (rd i 0) 22 ≡ c → reach false (bareTree rd i) ≤ 64
-      go true e c g = omega (arith, reach-true rd i (rd i 0) p refl (eqb-true (rd i 0) 15 e))
+      go true e c g = omega (arith, reach-true rd i (rd i 0) (λ z. omega arith) refl (eqb-true (rd i 0) 15 e))
       go false e true g = rw (bare-all rd i p (eqb-true (rd i 0) 22 g)) (part (child rd i 2) (child-below rd i 2 p))
       go false e false g =
           let y = part (partAt rd false i 2) (part-below rd false i 2 p) in
@@ -103,30 +127,40 @@ module _ (rd : Reader) (n : ℕ) (indexed : Indexed rd n) where
   reach-most (suc f) zero p h = rw (bare-zero rd) (omega arith)
   reach-most (suc f) (suc i) p h = reach-step (suc i) (omega arith) h (λ x q. reach-most f x (omega arith) (omega arith))
 
-  pub reach-fits : (i r : ℕ) → i < n → r ≡ reach false (bareTree rd i) → r < 256
-  reach-fits i r h e = omega (arith, reach-most (suc i) i (omega arith) h)
+  pub reach-low : (i r : ℕ) → i < n → r ≡ reach false (bareTree rd i) → r ≤ 64
+  reach-low i r h e = omega (arith, reach-most (suc i) i (omega arith) h)
 
--- The loop.
-pub reached-none : (rd : Reader) (reaches : List ℕ) → length reaches ≡ 0 → Reached rd reaches (length reaches)
-reached-none rd reaches e = record { holds = λ i h. absurd (omega arith) }
+  pub entry-made : (i r order : ℕ) → i < n → r ≡ reach false (bareTree rd i) → EntryOf rd i (r + 256 * order)
+  entry-made i r order h e =
+      let low : r ≤ 64 = reach-low i r h e in
+      let rest : (r + 256 * order) % 128 ≡ r = omega arith in
+      record { reached = rest ∙ e; unmarked = omega arith }
 
-pub reached-one : (rd : Reader) (reaches : List ℕ) → getD reaches 0 0 ≡ 0 → Reached rd reaches 1
-unfolding reach
-reached-one rd reaches z = record { holds = λ i h. go i h }
+-- The loop: the entries of the records below n are made.
+pub record Filled (rd : Reader) (reaches : List ℕ) (n : ℕ) : Type 0 where
+  pub holds : (i : ℕ) → i < n → EntryOf rd i (getD reaches i 0)
+
+pub filled-none : (rd : Reader) (reaches : List ℕ) → Filled rd reaches 0
+filled-none rd reaches = record { holds = λ i h. absurd (omega arith) }
+
+pub filled-more : (rd : Reader) (reaches : List ℕ) (i v : ℕ) → i < length reaches → Filled rd reaches i → EntryOf rd i v → Filled rd (set reaches i v) (i + 1)
+filled-more rd reaches i v p f e = record { holds = λ j h. go j h (ltb j i) refl }
   where
-    go : (i : ℕ) → i < 1 → getD reaches i 0 ≡ reach false (bareTree rd i)
-    go zero h = rw (bare-zero rd) z
-    go (suc i) h = absurd (omega arith)
+    go : (j : ℕ) → j < i + 1 → (b : Bool) → ltb j i ≡ b → EntryOf rd j (getD (set reaches i v) j 0)
+    go j h true q = let below = ltb-true j i q in rw (getD-set-other reaches i j v 0 (omega arith)) (f .holds j below)
+    go j h false q = let one : j ≡ i = omega (arith, ltb-false j i q) in rw (one, getD-set-same reaches i v 0 p) e
 
-pub reached-more : (rd : Reader) (reaches : List ℕ) (i v : ℕ) → i < length reaches → Reached rd reaches i → v ≡ reach false (bareTree rd i) → Reached rd (set reaches i v) (i + 1)
-reached-more rd reaches i v p t e = record { holds = λ j h. go j h (ltb j i) refl }
+pub filled-reached : (rd : Reader) (reaches : List ℕ) (i n : ℕ) → n ≤ i → Filled rd reaches i → Reached rd reaches n
+filled-reached rd reaches i n h f = record { holds = λ j p. f .holds j (omega arith) .reached }
+
+pub filled-unmarked : (rd : Reader) (reaches : List ℕ) (i : ℕ) → length reaches ≤ i → Filled rd reaches i → Unmarked reaches
+filled-unmarked rd reaches i h f = record { none = λ j. go j (ltb j i) refl }
   where
-    go : (j : ℕ) → j < i + 1 → (b : Bool) → ltb j i ≡ b → getD (set reaches i v) j 0 ≡ reach false (bareTree rd j)
-    go j h true q = let below = ltb-true j i q in getD-set-other reaches i j v 0 (omega arith) ∙ t .holds j below
-    go j h false q = let one : j ≡ i = omega (arith, ltb-false j i q) in rw one (getD-set-same reaches i v 0 p ∙ e)
-
-pub reached-end : (rd : Reader) (reaches : List ℕ) (i n : ℕ) → n ≤ i → Reached rd reaches i → Reached rd reaches n
-reached-end rd reaches i n h t = record { holds = λ j p. t .holds j (omega arith) }
+    go : (j : ℕ) (b : Bool) → ltb j i ≡ b → getD reaches j 0 % 256 < 128
+    go j true q = f .holds j (ltb-true j i q) .unmarked
+    go j false q =
+        let past : length reaches ≤ j = omega (arith, ltb-false j i q) in
+        omega (arith, List·getD-eq-default reaches 0 past)
 
 -- The ways out of the code that reads the table by keys.
 larger-none : (a : ℕ) → larger a 0 ≡ a
@@ -163,7 +197,7 @@ module _ (rd : Reader) (key b : ℕ) (eb : b ≡ key % 262144) where
       (λ e. absurd (omega arith)))
 
   pub reach-record : (size : ℕ) (reaches : List ℕ) (r : ℕ) → Normal rd size key → size ≤ length reaches → Reached rd reaches (length reaches) → 2 ≤ b →
-      r ≡ getD reaches (b - 1) 0 → r ≡ reach false (decoded rd key)
+      r ≡ getD reaches (b - 1) 0 % 128 → r ≡ reach false (decoded rd key)
   reach-record size reaches r normal l reached h e =
       rw (reach-body, body-record rd b h) (e ∙ reached .holds (b - 1) (body-in rd size key b (length reaches) normal eb h l))
 

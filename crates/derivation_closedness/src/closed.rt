@@ -1,4 +1,7 @@
-// Closedness: how far the indices of each record's tree reach, kept in a table, so that a test is one comparison.
+// Closedness: how far the indices of a record's tree reach. A recursion over the parts of a record; a table in front of it remembers what was found, so that
+// a test is one comparison. Entry i of the table is reach + 128 * mark + 256 * order of record i: of the marks see marks.rt, and of the order no contract
+// speaks, since it only says which part of a record is compared last.
+use crate::orders::order_of;
 use reader::trees;
 use reader::words;
 use reader_closedness::reaches::larger;
@@ -7,89 +10,118 @@ use reader_closedness::reaches::under;
 use reader_equality::keys::part_at;
 ghost use mathlib.Core.Bool.{false};
 ghost use mathlib.Core.Path.{_≡_};
-ghost use Prim.Native.Nat.{_<_, _≤_};
+ghost use Prim.Native.Nat.{_%_, _<_, _≤_, _/_};
 ghost use lib.ListN.{length, getD};
 ghost use Rattle.reader.specs.Words.{word};
 ghost use Rattle.reader.specs.Variables.{indicesBelow};
-ghost use Rattle.reader_equality.specs.Keys.{partEntry};
 ghost use Rattle.reader_closedness.specs.Reach.{reach};
 ghost use Rattle.derivation_rules.specs.Erase.{bareTree};
 ghost use Rattle.derivation_trees.specs.Keys.{decoded, Normal};
-ghost use Rattle.derivation_closedness.specs.Reaches.{Indexed, Reached, nodeReach};
+ghost use Rattle.derivation_closedness.specs.Reaches.{Indexed, Reached, Unmarked, EntryOf, partReach, nodeReach};
 
-// Entry k of the table.
-fn entry(reaches: &[u8], k: usize) -> usize
-    requires { ⌜ k < length (now reaches) ⌝ }
-    ensures { λ r. ⌜ r ≡ getD (now (reaches .entry)) k 0 ⌝ }
+// The reach that entry i of the table has.
+fn known_reach(reaches: &[u16], i: usize) -> usize
+    requires { ⌜ i < length (now reaches) ⌝ }
+    ensures { λ r. ⌜ r ≡ getD (now (reaches .entry)) i 0 % 128 ⌝ }
 {
-    reaches[k] as usize
+    (reaches[i] % 128) as usize
 }
 
-// What the table says of part w of record i, whose kind is k.
+// The order that the table has for record i, 0 where it has none.
+pub fn known_order(reaches: &[u16], i: usize) -> usize
+    ensures { λ r. ⌜ r ≡ getD (now (reaches .entry)) i 0 / 256 ⌝ }
+{
+    if reaches.len() <= i {
+        return 0;
+    }
+    (reaches[i] / 256) as usize
+}
+
+// How far part w of record i, whose kind is k, reaches.
 fn part_reach(
     obligation: &[u8],
     second: &[u8],
     m: usize,
-    reaches: &[u8],
+    reaches: &[u16],
+    n: usize,
     i: usize,
     k: usize,
     w: u8,
 ) -> usize
-    requires { ⌜ (k ≡ word (now obligation) (now second) m i 0) × (0 < i) × (i ≤ length (now reaches)) ⌝ }
-    ensures { λ r. ⌜ r ≡ partEntry (word (now (obligation .entry)) (now (second .entry)) m) false (now (reaches .entry)) i w ⌝ }
+    requires { ⌜ (k ≡ word (now obligation) (now second) m i 0) × (0 < i) × (n ≤ length (now reaches)) × Reached (word (now obligation) (now second) m) (now reaches) n ⌝ }
+    ensures { λ r. ⌜ r ≡ partReach (word (now (obligation .entry)) (now (second .entry)) m) i w ⌝ }
 {
     let x = part_at(obligation, second, m, false, i, k, w);
-    entry(reaches, x)
+    reach_of(obligation, second, m, reaches, n, x)
 }
 
-// The reach of record i, whose kind is k, from those of its parts.
+// How far record i, whose kind is k, reaches by its own index and its parts.
 fn node_reach(
     obligation: &[u8],
     second: &[u8],
     m: usize,
-    reaches: &[u8],
+    reaches: &[u16],
+    n: usize,
     i: usize,
     k: usize,
 ) -> usize
-    requires { ⌜ (k ≡ word (now obligation) (now second) m i 0) × (0 < i) × (i ≤ length (now reaches)) ⌝ }
-    ensures { λ r. ⌜ r ≡ nodeReach (word (now (obligation .entry)) (now (second .entry)) m) (now (reaches .entry)) i ⌝ }
+    requires { ⌜ (k ≡ word (now obligation) (now second) m i 0) × (0 < i) × (n ≤ length (now reaches)) × Reached (word (now obligation) (now second) m) (now reaches) n ⌝ }
+    ensures { λ r. ⌜ r ≡ nodeReach (word (now (obligation .entry)) (now (second .entry)) m) i ⌝ }
 {
     let own = own_reach(obligation, second, m, false, i, k);
-    let x = part_reach(obligation, second, m, reaches, i, k, 1);
-    let y = part_reach(obligation, second, m, reaches, i, k, 2);
-    let z = part_reach(obligation, second, m, reaches, i, k, 3);
+    let x = part_reach(obligation, second, m, reaches, n, i, k, 1);
+    let y = part_reach(obligation, second, m, reaches, n, i, k, 2);
+    let z = part_reach(obligation, second, m, reaches, n, i, k, 3);
     larger(own, larger(x, larger(under(false, k, y), z)))
 }
 
-// The reach of record i, from those of smaller records.
-fn reach_of(obligation: &[u8], second: &[u8], m: usize, reaches: &[u8], i: usize) -> usize
-    requires { ⌜ (0 < i) × (i ≤ length (now reaches)) × Reached (word (now obligation) (now second) m) (now reaches) i ⌝ }
+// How far record i reaches: as the table says, which has the records below n, or else as far as its parts, which are smaller records.
+fn reach_of(
+    obligation: &[u8],
+    second: &[u8],
+    m: usize,
+    reaches: &[u16],
+    n: usize,
+    i: usize,
+) -> usize
+    requires { ⌜ (n ≤ length (now reaches)) × Reached (word (now obligation) (now second) m) (now reaches) n ⌝ }
     ensures { λ r. ⌜ r ≡ reach false (bareTree (word (now (obligation .entry)) (now (second .entry)) m) i) ⌝ }
 {
+    if i < n {
+        return known_reach(reaches, i);
+    }
+    if i == 0 {
+        return 0;
+    }
     let k = words::word_at(obligation, second, m, i, 0);
     if k == 15 {
         return 0;
     }
     if k == 22 {
         let x = trees::child_at(obligation, second, m, i, 2);
-        return entry(reaches, x);
+        return reach_of(obligation, second, m, reaches, n, x);
     }
-    node_reach(obligation, second, m, reaches, i, k)
+    node_reach(obligation, second, m, reaches, n, i, k)
 }
 
-// Fills the table with the reaches of all its records, whose indices are below 64.
-pub fn reach_all(obligation: &[u8], second: &[u8], m: usize, reaches: &mut [u8])
-    requires { ⌜ Indexed (word (now obligation) (now second) m) (length (now reaches)) ⌝ }
-    ensures { λ _. ⌜ Reached (word (now (obligation .entry)) (now (second .entry)) m) (now (reaches .exit)) (length (now (reaches .exit))) ⌝ }
+// The entry of record i, from a table that has the smaller records, so that the recursion goes no deeper than the record's parts.
+fn entry_of(obligation: &[u8], second: &[u8], m: usize, reaches: &[u16], i: usize) -> u16
+    requires { ⌜ (i < length (now reaches)) × Indexed (word (now obligation) (now second) m) (length (now reaches)) × Reached (word (now obligation) (now second) m) (now reaches) i ⌝ }
+    ensures { λ r. ⌜ EntryOf (word (now (obligation .entry)) (now (second .entry)) m) i r ⌝ }
 {
-    if reaches.len() == 0 {
-        return;
-    }
-    reaches[0] = 0;
-    let mut i: usize = 1;
+    let r = reach_of(obligation, second, m, reaches, i, i);
+    let order = order_of(obligation, second, m, reaches, i);
+    (r + 256 * order) as u16
+}
+
+// Fills the table with the entries of all its records, whose indices are below 64; no mark is set.
+pub fn reach_all(obligation: &[u8], second: &[u8], m: usize, reaches: &mut [u16])
+    requires { ⌜ Indexed (word (now obligation) (now second) m) (length (now reaches)) ⌝ }
+    ensures { λ _. ⌜ Reached (word (now (obligation .entry)) (now (second .entry)) m) (now (reaches .exit)) (length (now (reaches .exit))) × Unmarked (now (reaches .exit)) ⌝ }
+{
+    let mut i: usize = 0;
     while i < reaches.len() {
-        let r = reach_of(obligation, second, m, reaches, i);
-        reaches[i] = r as u8;
+        reaches[i] = entry_of(obligation, second, m, reaches, i);
         i += 1;
     }
 }
@@ -100,7 +132,7 @@ pub fn reach_at(
     second: &[u8],
     m: usize,
     keys: &[usize],
-    reaches: &[u8],
+    reaches: &[u16],
     key: usize,
 ) -> usize
     requires { ⌜ Normal (word (now obligation) (now second) m) (length (now keys)) key × (length (now keys) ≤ length (now reaches)) × Reached (word (now obligation) (now second) m) (now reaches) (length (now reaches)) ⌝ }
@@ -110,7 +142,7 @@ pub fn reach_at(
     if body < 2 {
         return 0;
     }
-    entry(reaches, body - 1)
+    known_reach(reaches, body - 1)
 }
 
 // Is every index of the tree with this key below d, or bound in it?
@@ -119,7 +151,7 @@ pub fn is_below(
     second: &[u8],
     m: usize,
     keys: &[usize],
-    reaches: &[u8],
+    reaches: &[u16],
     key: usize,
     d: usize,
 ) -> bool

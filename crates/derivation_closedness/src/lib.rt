@@ -1,3 +1,4 @@
-// How far the indices of trees without types reach, and which records a constant occurs in.
+// How far the indices of trees without types reach, which records a constant occurs in, and in which order the parts of a tree are best visited.
 pub mod closed;
 pub mod marks;
+mod orders;

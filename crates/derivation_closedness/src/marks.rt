@@ -1,33 +1,35 @@
-// Occurrence: is a constant in a tree? The records from the constant's on are marked first, each once, so that shared records are not visited again.
+// Occurrence: is a constant in a tree? The records from the constant's on are marked first, each once, so that shared records are not visited again. The marks
+// stand in the table of reaches, and are taken off again.
 use reader::trees;
 use reader::words;
 use reader_equality::keys::part_at;
 ghost use mathlib.Core.Path.{_≡_};
-ghost use Prim.Native.Nat.{_+_, _<_, _≤_};
-ghost use lib.ListN.{length};
+ghost use Prim.Native.Nat.{_%_, _<_, _≤_};
+ghost use lib.ListN.{length, getD};
 ghost use Rattle.reader.specs.Words.{word};
 ghost use Rattle.reader.specs.Variables.{occurs};
 ghost use Rattle.derivation_rules.specs.Erase.{bareTree};
 ghost use Rattle.derivation_trees.specs.Keys.{decoded, Normal};
-ghost use Rattle.derivation_closedness.specs.Marks.{Marked, Unmarked, markOf, constantAt, partMarked, nodeMarked};
+ghost use Rattle.derivation_closedness.specs.Marks.{Marked, Changed, withMark, withoutMark, constantAt, partMarked, nodeMarked};
+ghost use Rattle.derivation_closedness.specs.Reaches.{Unmarked};
 
 // Is constant c in record x, by the marks of the records below n?
 fn is_marked(
     obligation: &[u8],
     second: &[u8],
     m: usize,
-    marks: &[u8],
+    reaches: &[u16],
     c: usize,
     n: usize,
     x: usize,
 ) -> bool
-    requires { ⌜ (n ≤ length (now marks)) × (x < n) × Marked (word (now obligation) (now second) m) c (now marks) n ⌝ }
+    requires { ⌜ (n ≤ length (now reaches)) × (x < n) × Marked (word (now obligation) (now second) m) c (now reaches) n ⌝ }
     ensures { λ r. ⌜ r ≡ occurs c (bareTree (word (now (obligation .entry)) (now (second .entry)) m) x) ⌝ }
 {
     if x < c {
         return false;
     }
-    marks[x] == 1
+    reaches[x] / 128 % 2 == 1
 }
 
 // Is constant c in part w of record j, whose kind is k?
@@ -35,17 +37,17 @@ fn part_marked(
     obligation: &[u8],
     second: &[u8],
     m: usize,
-    marks: &[u8],
+    reaches: &[u16],
     c: usize,
     j: usize,
     k: usize,
     w: u8,
 ) -> bool
-    requires { ⌜ (k ≡ word (now obligation) (now second) m j 0) × (0 < j) × (j ≤ length (now marks)) × Marked (word (now obligation) (now second) m) c (now marks) j ⌝ }
+    requires { ⌜ (k ≡ word (now obligation) (now second) m j 0) × (0 < j) × (j ≤ length (now reaches)) × Marked (word (now obligation) (now second) m) c (now reaches) j ⌝ }
     ensures { λ r. ⌜ r ≡ partMarked (word (now (obligation .entry)) (now (second .entry)) m) c j w ⌝ }
 {
     let x = part_at(obligation, second, m, false, j, k, w);
-    is_marked(obligation, second, m, marks, c, j, x)
+    is_marked(obligation, second, m, reaches, c, j, x)
 }
 
 // Is record j, whose kind is k, the constant c?
@@ -64,29 +66,29 @@ fn node_marked(
     obligation: &[u8],
     second: &[u8],
     m: usize,
-    marks: &[u8],
+    reaches: &[u16],
     c: usize,
     j: usize,
     k: usize,
 ) -> bool
-    requires { ⌜ (k ≡ word (now obligation) (now second) m j 0) × (0 < j) × (j ≤ length (now marks)) × Marked (word (now obligation) (now second) m) c (now marks) j ⌝ }
+    requires { ⌜ (k ≡ word (now obligation) (now second) m j 0) × (0 < j) × (j ≤ length (now reaches)) × Marked (word (now obligation) (now second) m) c (now reaches) j ⌝ }
     ensures { λ r. ⌜ r ≡ nodeMarked (word (now (obligation .entry)) (now (second .entry)) m) c j ⌝ }
 {
     if is_constant(obligation, second, m, c, j, k) {
         return true;
     }
-    if part_marked(obligation, second, m, marks, c, j, k, 1) {
+    if part_marked(obligation, second, m, reaches, c, j, k, 1) {
         return true;
     }
-    if part_marked(obligation, second, m, marks, c, j, k, 2) {
+    if part_marked(obligation, second, m, reaches, c, j, k, 2) {
         return true;
     }
-    part_marked(obligation, second, m, marks, c, j, k, 3)
+    part_marked(obligation, second, m, reaches, c, j, k, 3)
 }
 
 // Is constant c in record j, by the marks of the smaller records?
-fn is_in(obligation: &[u8], second: &[u8], m: usize, marks: &[u8], c: usize, j: usize) -> bool
-    requires { ⌜ (j ≤ length (now marks)) × Marked (word (now obligation) (now second) m) c (now marks) j ⌝ }
+fn is_in(obligation: &[u8], second: &[u8], m: usize, reaches: &[u16], c: usize, j: usize) -> bool
+    requires { ⌜ (j ≤ length (now reaches)) × Marked (word (now obligation) (now second) m) c (now reaches) j ⌝ }
     ensures { λ r. ⌜ r ≡ occurs c (bareTree (word (now (obligation .entry)) (now (second .entry)) m) j) ⌝ }
 {
     if j == 0 {
@@ -98,32 +100,51 @@ fn is_in(obligation: &[u8], second: &[u8], m: usize, marks: &[u8], c: usize, j: 
     }
     if k == 22 {
         let x = trees::child_at(obligation, second, m, j, 2);
-        return is_marked(obligation, second, m, marks, c, j, x);
+        return is_marked(obligation, second, m, reaches, c, j, x);
     }
-    node_marked(obligation, second, m, marks, c, j, k)
+    node_marked(obligation, second, m, reaches, c, j, k)
 }
 
-// The mark of record j: 1 where constant c is in it.
-fn mark_of(obligation: &[u8], second: &[u8], m: usize, marks: &[u8], c: usize, j: usize) -> u8
-    requires { ⌜ (j ≤ length (now marks)) × Marked (word (now obligation) (now second) m) c (now marks) j ⌝ }
-    ensures { λ r. ⌜ r ≡ markOf (occurs c (bareTree (word (now (obligation .entry)) (now (second .entry)) m) j)) ⌝ }
+// The entry of record j with its mark.
+fn marked_entry(
+    obligation: &[u8],
+    second: &[u8],
+    m: usize,
+    reaches: &[u16],
+    c: usize,
+    j: usize,
+) -> u16
+    requires { ⌜ (j < length (now reaches)) × (getD (now reaches) j 0 % 256 < 128) × Marked (word (now obligation) (now second) m) c (now reaches) j ⌝ }
+    ensures { λ r. ⌜ r ≡ withMark (word (now (obligation .entry)) (now (second .entry)) m) c j (getD (now (reaches .entry)) j 0) ⌝ }
 {
-    if is_in(obligation, second, m, marks, c, j) {
-        1
-    } else {
-        0
+    if is_in(obligation, second, m, reaches, c, j) {
+        return reaches[j] + 128;
     }
+    reaches[j]
 }
 
-// Marks the records from c on, below n; the other marks stay.
-pub fn mark_all(obligation: &[u8], second: &[u8], m: usize, marks: &mut [u8], c: usize, n: usize)
-    requires { ⌜ n ≤ length (now marks) ⌝ }
-    ensures { λ _. ⌜ Marked (word (now (obligation .entry)) (now (second .entry)) m) c (now (marks .exit)) n × Unmarked c n (now (marks .entry)) (now (marks .exit)) ⌝ }
+// Marks the records from c on, below n, that constant c is in.
+pub fn mark_all(obligation: &[u8], second: &[u8], m: usize, reaches: &mut [u16], c: usize, n: usize)
+    requires { ⌜ (n ≤ length (now reaches)) × Unmarked (now reaches) ⌝ }
+    ensures { λ _. ⌜ Marked (word (now (obligation .entry)) (now (second .entry)) m) c (now (reaches .exit)) n × Changed (withMark (word (now (obligation .entry)) (now (second .entry)) m) c) c n (now (reaches .entry)) (now (reaches .exit)) ⌝ }
 {
     let mut j = c;
     while j < n {
-        marks[j] = mark_of(obligation, second, m, marks, c, j);
+        reaches[j] = marked_entry(obligation, second, m, reaches, c, j);
         j += 1;
+    }
+}
+
+// Takes the marks of the records from c on, below n, off again.
+pub fn unmark_all(reaches: &mut [u16], c: usize, n: usize)
+    requires { ⌜ n ≤ length (now reaches) ⌝ }
+    ensures { λ _. ⌜ Changed withoutMark c n (now (reaches .entry)) (now (reaches .exit)) ⌝ }
+{
+    let mut i = c;
+    while i < n {
+        let v = reaches[i];
+        reaches[i] = v - 128 * (v / 128 % 2);
+        i += 1;
     }
 }
 
@@ -133,16 +154,16 @@ pub fn key_marked(
     second: &[u8],
     m: usize,
     keys: &[usize],
-    marks: &[u8],
+    reaches: &[u16],
     c: usize,
     key: usize,
 ) -> bool
-    requires { ⌜ Normal (word (now obligation) (now second) m) (length (now keys)) key × (length (now keys) ≤ length (now marks)) × Marked (word (now obligation) (now second) m) c (now marks) (length (now keys)) ⌝ }
+    requires { ⌜ Normal (word (now obligation) (now second) m) (length (now keys)) key × (length (now keys) ≤ length (now reaches)) × Marked (word (now obligation) (now second) m) c (now reaches) (length (now keys)) ⌝ }
     ensures { λ r. ⌜ r ≡ occurs c (decoded (word (now (obligation .entry)) (now (second .entry)) m) key) ⌝ }
 {
     let body = key % 262144;
     if body < 2 {
         return false;
     }
-    is_marked(obligation, second, m, marks, c, keys.len(), body - 1)
+    is_marked(obligation, second, m, reaches, c, keys.len(), body - 1)
 }

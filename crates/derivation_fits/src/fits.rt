@@ -24,7 +24,7 @@ fn are_closed(
     second: &[u8],
     m: usize,
     keys: &[usize],
-    reaches: &[u8],
+    reaches: &[u16],
     c: usize,
 ) -> bool
     requires { ⌜ Tables (word (now obligation) (now second) m) (now keys) (now reaches) × (c < length (now keys)) ⌝ }
@@ -67,8 +67,7 @@ fn forms_replaced(
     second: &[u8],
     m: usize,
     keys: &[usize],
-    reaches: &[u8],
-    weights: &[u16],
+    reaches: &[u16],
     goal: usize,
     n: usize,
     x: usize,
@@ -81,7 +80,7 @@ fn forms_replaced(
     let u = forms::form_key(obligation, second, m, keys, goal, n, x);
     let v = forms::form_key(obligation, second, m, keys, goal, n, t);
     let w = forms::form_key(obligation, second, m, keys, goal, n, j);
-    replace::is_replaced(obligation, second, m, keys, reaches, weights, u, v, w)
+    replace::is_replaced(obligation, second, m, keys, reaches, u, v, w)
 }
 
 // R9: is B open in index 0 at most, are the other parts closed, is the third B(E) and the goal B(F)?
@@ -90,8 +89,7 @@ fn equality_fits(
     second: &[u8],
     m: usize,
     keys: &[usize],
-    reaches: &[u8],
-    weights: &[u16],
+    reaches: &[u16],
     goal: usize,
     n: usize,
 ) -> bool
@@ -107,34 +105,10 @@ fn equality_fits(
     if !are_closed(obligation, second, m, keys, reaches, rest) {
         return false;
     }
-    if !forms_replaced(
-        obligation,
-        second,
-        m,
-        keys,
-        reaches,
-        weights,
-        goal,
-        n,
-        16,
-        13,
-        8,
-    ) {
+    if !forms_replaced(obligation, second, m, keys, reaches, goal, n, 16, 13, 8) {
         return false;
     }
-    forms_replaced(
-        obligation,
-        second,
-        m,
-        keys,
-        reaches,
-        weights,
-        goal,
-        n,
-        4,
-        14,
-        8,
-    )
+    forms_replaced(obligation, second, m, keys, reaches, goal, n, 4, 14, 8)
 }
 
 // Do the letters of rule k fit at node n: two forms equal, or one another with a third in it?
@@ -143,8 +117,7 @@ fn letters_fit(
     second: &[u8],
     m: usize,
     keys: &[usize],
-    reaches: &[u8],
-    weights: &[u16],
+    reaches: &[u16],
     goal: usize,
     n: usize,
     k: usize,
@@ -163,19 +136,7 @@ fn letters_fit(
     }
     let t = tables::column(k, 11);
     let j = tables::column(k, 12);
-    forms_replaced(
-        obligation,
-        second,
-        m,
-        keys,
-        reaches,
-        weights,
-        goal,
-        n,
-        x,
-        t,
-        j,
-    )
+    forms_replaced(obligation, second, m, keys, reaches, goal, n, x, t, j)
 }
 
 // Do the parts of node n fit, as its rule asks?
@@ -184,8 +145,7 @@ pub fn fits(
     second: &[u8],
     m: usize,
     keys: &[usize],
-    reaches: &[u8],
-    weights: &[u16],
+    reaches: &[u16],
     goal: usize,
     n: usize,
 ) -> bool
@@ -200,11 +160,11 @@ pub fn fits(
         return false;
     }
     if k == 79 {
-        return equality_fits(obligation, second, m, keys, reaches, weights, goal, n);
+        return equality_fits(obligation, second, m, keys, reaches, goal, n);
     }
     let c = trees::lower_at(obligation, second, m, n, 1);
     if !are_closed(obligation, second, m, keys, reaches, c) {
         return false;
     }
-    letters_fit(obligation, second, m, keys, reaches, weights, goal, n, k)
+    letters_fit(obligation, second, m, keys, reaches, goal, n, k)
 }

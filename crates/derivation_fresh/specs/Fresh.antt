@@ -99,18 +99,18 @@ pub record Rising (size : ℕ) (frames : List ℕ) (d f top : ℕ) : Type 0 wher
   pub added : (g : ℕ) → startAt frames d < g → g ≤ f → entryBody (entryAt frames g) ≤ top
 
 -- the records below `top` are marked for c
-pub record Marking (rd : Reader) (keys marks : List ℕ) (c top : ℕ) : Type 0 where
+pub record Marking (rd : Reader) (keys reaches : List ℕ) (c top : ℕ) : Type 0 where
   pub low : top ≤ length keys
-  pub room : top ≤ length marks
-  pub marked : Marked rd c marks top
+  pub room : top ≤ length reaches
+  pub marked : Marked rd c reaches top
 
 -- the keys of the records below `top`
-module _ (rd : Reader) (keys marks : List ℕ) (c top : ℕ) (marking : Marking rd keys marks c top) where
+module _ (rd : Reader) (keys reaches : List ℕ) (c top : ℕ) (marking : Marking rd keys reaches c top) where
   pub few-keys : top ≡ length (take top keys)
   few-keys = sym (length-take-le top keys (marking .low))
 
   pub few-marked : (key : ℕ) → Normal rd top key →
-      Normal rd (length (take top keys)) key × (length (take top keys) ≤ length marks) × Marked rd c marks (length (take top keys))
+      Normal rd (length (take top keys)) key × (length (take top keys) ≤ length reaches) × Marked rd c reaches (length (take top keys))
   few-marked key normal = rw (← few-keys) (normal, marking .room, marking .marked)
 
 -- a key of smaller records
@@ -220,5 +220,5 @@ module _ (rd : Reader) (Γ : List Tree) (n k : ℕ) (ek : k ≡ rd n 0) where
       rw (← ek) (eq-yes k 77 _ _ r h (rw own e))
 
 -- records marked to `top`
-pub marked-to : (rd : Reader) (keys marks : List ℕ) (c top : ℕ) → top ≤ length keys → length keys ≤ length marks → Marked rd c marks top → Marking rd keys marks c top
-marked-to rd keys marks c top low room marked = record { low = low; room = omega arith; marked = marked }
+pub marked-to : (rd : Reader) (keys reaches : List ℕ) (c top : ℕ) → top ≤ length keys → length keys ≤ length reaches → Marked rd c reaches top → Marking rd keys reaches c top
+marked-to rd keys reaches c top low room marked = record { low = low; room = omega arith; marked = marked }

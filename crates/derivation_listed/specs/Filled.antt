@@ -32,6 +32,44 @@ pub record Filled (rd : Reader) (size : ℕ) (listed : List ℕ) (n : ℕ) (rest
   pub trees : listedTrees rd listed n 1 ++ rest ≡ Γ
   pub normal : (x : ℕ) → 0 < x → x ≤ n → Normal rd size (getD listed x 0)
 
+-- position 0 and those past n stayed
+pub record Outside (n : ℕ) (before listed : List ℕ) : Type 0 where
+  pub first : getD listed 0 0 ≡ getD before 0 0
+  pub past : (x : ℕ) → n < x → getD listed x 0 ≡ getD before x 0
+
+pub outside-self : (n : ℕ) (listed : List ℕ) → Outside n listed listed
+outside-self n listed = record { first = refl; past = λ x h. refl }
+
+-- one position more is written
+outside-set : (n v : ℕ) (before listed : List ℕ) → Outside n before listed → Outside (n + 1) before (set listed (n + 1) v)
+outside-set n v before listed o = record {
+  first = getD-set-other listed (n + 1) 0 v 0 (λ z. omega arith) ∙ o .first;
+  past = λ x h. getD-set-other listed (n + 1) x v 0 (λ z. omega arith) ∙ o .past x (omega arith);
+}
+
+pub outside-next : (n v : ℕ) (before listed after : List ℕ) → Outside n before listed → after ≡ set listed (n + 1) v → Outside (n + 1) before after
+outside-next n v before listed after o e = rw e (outside-set n v before listed o)
+
+-- or none, as entry e of a frame adds
+pub outside-entry : (n e r : ℕ) (before listed after : List ℕ) → Outside n before listed → r ≡ ifEq e 0 n (n + 1) → after ≡ ifEq e 0 listed (set listed (n + 1) (e - 1)) →
+    Outside r before after × (n ≤ r)
+outside-entry n e r before listed after o er ea = go (eqb e 0) refl
+  where
+    go : (b : Bool) → eqb e 0 ≡ b → Outside r before after × (n ≤ r)
+    go true t =
+        let none : e ≡ 0 = eqb-true e 0 t in
+        let count : r ≡ n = er ∙ sym (eq-yes e 0 _ _ n none refl) in
+        let same : after ≡ listed = ea ∙ sym (eq-yes e 0 _ _ listed none refl) in
+        (rw (count, same) o, omega arith)
+    go false t =
+        let some : e ≡ 0 → ⊥ = eqb-false e 0 t in
+        let count : r ≡ n + 1 = er ∙ sym (eq-no e 0 _ _ (n + 1) some refl) in
+        let stored : after ≡ set listed (n + 1) (e - 1) = ea ∙ sym (eq-no e 0 _ _ (set listed (n + 1) (e - 1)) some refl) in
+        (rw (count, stored) (outside-set n (e - 1) before listed o), omega arith)
+
+pub outside-then : (h r : ℕ) (before listed after : List ℕ) → h ≤ r → Outside h before listed → Outside r listed after → Outside r before after
+outside-then h r before listed after p a b = record { first = b .first ∙ a .first; past = λ x q. b .past x q ∙ a .past x (omega arith) }
+
 trees-length : (rd : Reader) (listed : List ℕ) (n x : ℕ) → length (listedTrees rd listed n x) ≡ n
 unfolding listedTrees
 trees-length rd listed zero x = refl

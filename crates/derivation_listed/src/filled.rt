@@ -11,7 +11,7 @@ ghost use Rattle.reader.specs.Words.{word};
 ghost use Rattle.reader.specs.Tests.{ifEq};
 ghost use Rattle.derivation_trees.specs.Table.{Table};
 ghost use Rattle.derivation_frames.specs.Frames.{startAt, entryAt, chainTrees, membersAt, Framed};
-ghost use Rattle.derivation_listed.specs.Filled.{Filled};
+ghost use Rattle.derivation_listed.specs.Filled.{Filled, Outside};
 
 // Lists the keys of the items of chain c, and says how many they are.
 fn fill_chain(
@@ -23,7 +23,7 @@ fn fill_chain(
     listed: &mut [usize],
 ) -> usize
     requires { ⌜ Table (word (now obligation) (now second) m) (now keys) × (c < length (now keys)) × (length (chainTrees (word (now obligation) (now second) m) c) ≤ 2048) × (length (now listed) ≡ 2049) ⌝ }
-    ensures { λ r. ⌜ Filled (word (now (obligation .entry)) (now (second .entry)) m) (length (now (keys .entry))) (now (listed .exit)) r [] (chainTrees (word (now (obligation .entry)) (now (second .entry)) m) c) ⌝ }
+    ensures { λ r. ⌜ Filled (word (now (obligation .entry)) (now (second .entry)) m) (length (now (keys .entry))) (now (listed .exit)) r [] (chainTrees (word (now (obligation .entry)) (now (second .entry)) m) c) × Outside r (now (listed .entry)) (now (listed .exit)) ⌝ }
 {
     let mut l = c;
     let mut n: usize = 0;
@@ -62,7 +62,7 @@ fn fill_added(
     h: usize,
 ) -> usize
     requires { ⌜ Framed (word (now obligation) (now second) m) (length (now keys)) (now frames) d × (s ≡ startAt (now frames) d) × (length (now listed) ≡ 2049) × Filled (word (now obligation) (now second) m) (length (now keys)) (now listed) h [] (chainTrees (word (now obligation) (now second) m) (entryAt (now frames) s)) ⌝ }
-    ensures { λ r. ⌜ Filled (word (now (obligation .entry)) (now (second .entry)) m) (length (now (keys .entry))) (now (listed .exit)) r [] (membersAt (word (now (obligation .entry)) (now (second .entry)) m) (now (frames .entry)) d) ⌝ }
+    ensures { λ r. ⌜ Filled (word (now (obligation .entry)) (now (second .entry)) m) (length (now (keys .entry))) (now (listed .exit)) r [] (membersAt (word (now (obligation .entry)) (now (second .entry)) m) (now (frames .entry)) d) × Outside r (now (listed .entry)) (now (listed .exit)) × (h ≤ r) ⌝ }
 {
     let mut f = s;
     let mut n = h;
@@ -74,7 +74,7 @@ fn fill_added(
     n
 }
 
-// Lists the keys of the members at depth d, and says how many they are.
+// Lists the keys of the members at depth d, and says how many they are; the other positions stay.
 pub fn fill(
     obligation: &[u8],
     second: &[u8],
@@ -85,7 +85,7 @@ pub fn fill(
     listed: &mut [usize],
 ) -> usize
     requires { ⌜ Table (word (now obligation) (now second) m) (now keys) × Framed (word (now obligation) (now second) m) (length (now keys)) (now frames) d × (length (now listed) ≡ 2049) ⌝ }
-    ensures { λ r. ⌜ Filled (word (now (obligation .entry)) (now (second .entry)) m) (length (now (keys .entry))) (now (listed .exit)) r [] (membersAt (word (now (obligation .entry)) (now (second .entry)) m) (now (frames .entry)) d) ⌝ }
+    ensures { λ r. ⌜ Filled (word (now (obligation .entry)) (now (second .entry)) m) (length (now (keys .entry))) (now (listed .exit)) r [] (membersAt (word (now (obligation .entry)) (now (second .entry)) m) (now (frames .entry)) d) × Outside r (now (listed .entry)) (now (listed .exit)) ⌝ }
 {
     let s = frames::start_at(frames, d);
     let c = frames::entry_at(frames, s);

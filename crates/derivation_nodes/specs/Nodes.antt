@@ -15,6 +15,7 @@ use Rattle.derivation_rules.specs.Rules.{State}
 use Rattle.derivation_rules.specs.Check.{depthFits, rowFault, rowOf, nodeFault}
 use Rattle.reader.specs.Members.{premisesFit}
 use Rattle.derivation_trees.specs.Keys.{decoded}
+use Rattle.derivation_closedness.specs.Reaches.{Unmarked}
 use Rattle.derivation_replacement.specs.Replaced.{Tables}
 use Rattle.derivation_tables.specs.RowLaws.{by-rule}
 use Rattle.derivation_frames.specs.Frames.{goalAt, countAt, membersAt, stateOf, Framed}
@@ -26,9 +27,9 @@ use Rattle.derivation_fresh.specs.Fresh.{nodeFresh, node-fresh}
 use Rattle.derivation_nodes.specs.Rooms.{nodeRoom, node-room}
 
 -- the tables beside the frames
-pub record Ready (rd : Reader) (keys reaches marks : List ℕ) : Type 0 where
+pub record Ready (rd : Reader) (keys reaches : List ℕ) : Type 0 where
   pub tables : Tables rd keys reaches
-  pub marks-long : length keys ≤ length marks
+  pub unmarked : Unmarked reaches
 
 -- the goal's form, the premises, as node n's rule has them
 unfoldable pub goalShapedAt : Reader → Tree → ℕ → Bool

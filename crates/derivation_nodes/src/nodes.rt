@@ -74,8 +74,7 @@ fn parts_fit(
     second: &[u8],
     m: usize,
     keys: &[usize],
-    reaches: &[u8],
-    weights: &[u16],
+    reaches: &[u16],
     frames: &[usize],
     d: usize,
     n: usize,
@@ -84,7 +83,7 @@ fn parts_fit(
     ensures { λ r. ⌜ r ≡ nodeFits (word (now (obligation .entry)) (now (second .entry)) m) (decoded (word (now (obligation .entry)) (now (second .entry)) m) (goalAt (now (frames .entry)) d)) n ⌝ }
 {
     let goal = frames::goal_at(frames, d);
-    fits::fits(obligation, second, m, keys, reaches, weights, goal, n)
+    fits::fits(obligation, second, m, keys, reaches, goal, n)
 }
 
 // Have the premises of node n room beside h members?
@@ -150,26 +149,24 @@ fn form_fault(
     0
 }
 
-// Refusals 15 to 18 of node n at depth d, 0 for none. The marks are scratch.
+// Refusals 15 to 18 of node n at depth d, 0 for none. The table of reaches comes back as it was.
 fn fit_fault(
     obligation: &[u8],
     second: &[u8],
     m: usize,
     keys: &[usize],
-    reaches: &[u8],
-    weights: &[u16],
+    reaches: &mut [u16],
     frames: &[usize],
-    marks: &mut [u8],
     d: usize,
     n: usize,
 ) -> usize
-    requires { ⌜ At (word (now obligation) (now second) m) (now keys) (now frames) d n × Ready (word (now obligation) (now second) m) (now keys) (now reaches) (now marks) ⌝ }
-    ensures { λ r. ⌜ r ≡ fitFault (word (now (obligation .entry)) (now (second .entry)) m) (stateOf (word (now (obligation .entry)) (now (second .entry)) m) (now (frames .entry)) d) n ⌝ }
+    requires { ⌜ At (word (now obligation) (now second) m) (now keys) (now frames) d n × Ready (word (now obligation) (now second) m) (now keys) (now reaches) ⌝ }
+    ensures { λ r. ⌜ (r ≡ fitFault (word (now (obligation .entry)) (now (second .entry)) m) (stateOf (word (now (obligation .entry)) (now (second .entry)) m) (now (frames .entry)) d) n) × (now (reaches .exit) ≡ now (reaches .entry)) ⌝ }
 {
-    if !parts_fit(obligation, second, m, keys, reaches, weights, frames, d, n) {
+    if !parts_fit(obligation, second, m, keys, reaches, frames, d, n) {
         return 15;
     }
-    if !fresh::constant_fresh(obligation, second, m, keys, frames, marks, d, n) {
+    if !fresh::constant_fresh(obligation, second, m, keys, frames, reaches, d, n) {
         return 16;
     }
     if !has_room(obligation, second, m, keys, frames, d, n) {
@@ -181,36 +178,23 @@ fn fit_fault(
     0
 }
 
-// The refusal of node n at depth d, 0 for none. The marks are scratch.
+// The refusal of node n at depth d, 0 for none. The table of reaches comes back as it was.
 pub fn node_fault(
     obligation: &[u8],
     second: &[u8],
     m: usize,
     keys: &[usize],
-    reaches: &[u8],
-    weights: &[u16],
+    reaches: &mut [u16],
     frames: &[usize],
-    marks: &mut [u8],
     d: usize,
     n: usize,
 ) -> usize
-    requires { ⌜ At (word (now obligation) (now second) m) (now keys) (now frames) d n × Ready (word (now obligation) (now second) m) (now keys) (now reaches) (now marks) ⌝ }
-    ensures { λ r. ⌜ r ≡ nodeFault (word (now (obligation .entry)) (now (second .entry)) m) (stateOf (word (now (obligation .entry)) (now (second .entry)) m) (now (frames .entry)) d) n ⌝ }
+    requires { ⌜ At (word (now obligation) (now second) m) (now keys) (now frames) d n × Ready (word (now obligation) (now second) m) (now keys) (now reaches) ⌝ }
+    ensures { λ r. ⌜ (r ≡ nodeFault (word (now (obligation .entry)) (now (second .entry)) m) (stateOf (word (now (obligation .entry)) (now (second .entry)) m) (now (frames .entry)) d) n) × (now (reaches .exit) ≡ now (reaches .entry)) ⌝ }
 {
     let why = form_fault(obligation, second, m, keys, frames, d, n);
     if why != 0 {
         return why;
     }
-    fit_fault(
-        obligation,
-        second,
-        m,
-        keys,
-        reaches,
-        weights,
-        frames,
-        marks,
-        d,
-        n,
-    )
+    fit_fault(obligation, second, m, keys, reaches, frames, d, n)
 }

@@ -1,5 +1,5 @@
-// Replacement: is a tree what another one is with index 0 replaced? All by keys; what has no index to replace is compared at once. Of a tree's parts the
-// heaviest is compared last, by the loop, so that the recursion is no deeper than the weight's number of bits.
+// Replacement: is a tree what another one is with index 0 replaced? All by keys; what has no index to replace is compared at once. Of a tree's parts the one
+// with the largest order is compared last, by the loop, so that the recursion is no deeper than 15.
 use derivation_closedness::closed;
 use derivation_trees::parts;
 ghost use mathlib.Core.Path.{_≡_};
@@ -77,33 +77,30 @@ fn part_depth(
     }
 }
 
-// What the table says of the record of key j, 0 for none.
-fn weight_of(weights: &[u16], j: usize) -> u16 {
+// The order of the record of key j, 0 for none.
+fn order_of(reaches: &[u16], j: usize) -> usize {
     let body = j % 262144;
     if body < 2 {
         return 0;
     }
-    if weights.len() < body {
-        return 0;
-    }
-    weights[body - 1]
+    closed::known_order(reaches, body - 1)
 }
 
-// The part of the tree of key j that is compared last: by the table the heaviest, though any would do.
+// The part of the tree of key j that is compared last: the one with the largest order, though any would do.
 fn last_part(
     obligation: &[u8],
     second: &[u8],
     m: usize,
     keys: &[usize],
-    weights: &[u16],
+    reaches: &[u16],
     j: usize,
 ) -> u8
     requires { ⌜ Table (word (now obligation) (now second) m) (now keys) × Normal (word (now obligation) (now second) m) (length (now keys)) j ⌝ }
     ensures { λ r. ⌜ (0 < r) × (r < 4) ⌝ }
 {
-    let a = weight_of(weights, parts::part_of(obligation, second, m, keys, j, 1));
-    let b = weight_of(weights, parts::part_of(obligation, second, m, keys, j, 2));
-    let c = weight_of(weights, parts::part_of(obligation, second, m, keys, j, 3));
+    let a = order_of(reaches, parts::part_of(obligation, second, m, keys, j, 1));
+    let b = order_of(reaches, parts::part_of(obligation, second, m, keys, j, 2));
+    let c = order_of(reaches, parts::part_of(obligation, second, m, keys, j, 3));
     if a < b {
         return if b < c { 3 } else { 2 };
     }
@@ -116,8 +113,7 @@ fn fits_part(
     second: &[u8],
     m: usize,
     keys: &[usize],
-    reaches: &[u8],
-    weights: &[u16],
+    reaches: &[u16],
     x: usize,
     t: usize,
     j: usize,
@@ -130,7 +126,7 @@ fn fits_part(
     let e = part_depth(obligation, second, m, keys, j, d, w);
     let y = parts::part_of(obligation, second, m, keys, x, w);
     let z = parts::part_of(obligation, second, m, keys, j, w);
-    fits_at(obligation, second, m, keys, reaches, weights, y, t, z, e)
+    fits_at(obligation, second, m, keys, reaches, y, t, z, e)
 }
 
 // The first part other than w.
@@ -153,8 +149,7 @@ fn others_fit(
     second: &[u8],
     m: usize,
     keys: &[usize],
-    reaches: &[u8],
-    weights: &[u16],
+    reaches: &[u16],
     x: usize,
     t: usize,
     j: usize,
@@ -166,10 +161,10 @@ fn others_fit(
 {
     let u = first_other(w);
     let v = second_other(w);
-    if !fits_part(obligation, second, m, keys, reaches, weights, x, t, j, d, u) {
+    if !fits_part(obligation, second, m, keys, reaches, x, t, j, d, u) {
         return false;
     }
-    fits_part(obligation, second, m, keys, reaches, weights, x, t, j, d, v)
+    fits_part(obligation, second, m, keys, reaches, x, t, j, d, v)
 }
 
 // Is the tree of key x that of key j with that of key t in place of index d?
@@ -178,8 +173,7 @@ fn fits_at(
     second: &[u8],
     m: usize,
     keys: &[usize],
-    reaches: &[u8],
-    weights: &[u16],
+    reaches: &[u16],
     x: usize,
     t: usize,
     j: usize,
@@ -198,8 +192,8 @@ fn fits_at(
         if !heads_fit(obligation, second, m, keys, y, z) {
             return false;
         }
-        let w = last_part(obligation, second, m, keys, weights, z);
-        if !others_fit(obligation, second, m, keys, reaches, weights, y, t, z, e, w) {
+        let w = last_part(obligation, second, m, keys, reaches, z);
+        if !others_fit(obligation, second, m, keys, reaches, y, t, z, e, w) {
             return false;
         }
         e = part_depth(obligation, second, m, keys, z, e, w);
@@ -209,15 +203,13 @@ fn fits_at(
     y == z
 }
 
-// "B(t) is B with index 0 replaced": is the tree of key x that of key j with that of key t in place of index 0? The weights
-// only say in which order parts are compared.
+// "B(t) is B with index 0 replaced": is the tree of key x that of key j with that of key t in place of index 0?
 pub fn is_replaced(
     obligation: &[u8],
     second: &[u8],
     m: usize,
     keys: &[usize],
-    reaches: &[u8],
-    weights: &[u16],
+    reaches: &[u16],
     x: usize,
     t: usize,
     j: usize,
@@ -225,5 +217,5 @@ pub fn is_replaced(
     requires { ⌜ Tables (word (now obligation) (now second) m) (now keys) (now reaches) × Normal (word (now obligation) (now second) m) (length (now keys)) x × Normal (word (now obligation) (now second) m) (length (now keys)) t × Normal (word (now obligation) (now second) m) (length (now keys)) j ⌝ }
     ensures { λ r. ⌜ r ≡ same (decoded (word (now (obligation .entry)) (now (second .entry)) m) x) (replaced 0 (decoded (word (now (obligation .entry)) (now (second .entry)) m) t) (decoded (word (now (obligation .entry)) (now (second .entry)) m) j)) ⌝ }
 {
-    fits_at(obligation, second, m, keys, reaches, weights, x, t, j, 0)
+    fits_at(obligation, second, m, keys, reaches, x, t, j, 0)
 }

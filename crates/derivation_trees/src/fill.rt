@@ -6,6 +6,7 @@ use reader_equality::tables;
 ghost use Prim.Native.Nat.{_+_, _*_, _<_, _≤_};
 ghost use lib.ListN.{length};
 ghost use Rattle.reader.specs.Words.{word};
+ghost use Rattle.reader_equality.specs.Tables.{Zeros};
 ghost use Rattle.derivation_trees.specs.Table.{Table};
 ghost use Rattle.derivation_trees.specs.Filling.{Filling, Made};
 
@@ -39,12 +40,12 @@ fn record_key(
     slots::place(obligation, second, m, false, keys, slots, i) + 1
 }
 
-// Fills the table with the keys of all its records; past the end of the files a record reads as zeros. The slots are scratch.
+// Fills the table with the keys of all its records; past the end of the files a record reads as zeros. The slots are scratch: zeros before, and
+// zeros again.
 pub fn key_all(obligation: &[u8], second: &[u8], m: usize, keys: &mut [usize], slots: &mut [u32])
-    requires { ⌜ (length (now keys) ≤ 262143) × (4096 + 2 * length (now keys) ≤ length (now slots)) ⌝ }
-    ensures { λ _. ⌜ Table (word (now (obligation .entry)) (now (second .entry)) m) (now (keys .exit)) ⌝ }
+    requires { ⌜ (length (now keys) ≤ 262143) × (4096 + 2 * length (now keys) ≤ length (now slots)) × Zeros (now slots) ⌝ }
+    ensures { λ _. ⌜ Table (word (now (obligation .entry)) (now (second .entry)) m) (now (keys .exit)) × Zeros (now (slots .exit)) ⌝ }
 {
-    slots::clear(slots);
     if keys.len() == 0 {
         return;
     }
@@ -54,4 +55,5 @@ pub fn key_all(obligation: &[u8], second: &[u8], m: usize, keys: &mut [usize], s
         keys[i] = record_key(obligation, second, m, keys, slots, i);
         i += 1;
     }
+    slots::clear(slots);
 }

@@ -1,3 +1,2 @@
 pub mod Walked
-pub mod Ways
-pub mod Going
+pub mod Turns

@@ -1,3 +1,2 @@
-// The walk over a derivation.
+// The walk over a derivation: a node, then its premises in chain order.
 pub mod walk;
-pub mod ways;

@@ -1,127 +1,85 @@
-// The walk: node, then premises in chain order. The sequent of a node is the frame of its depth; the ways say which premises are still to be walked.
-use crate::ways;
+// The walk: node, then premises in chain order. The sequent of a node is the frame of its depth.
 use derivation_nodes::nodes;
 use derivation_nodes::push;
 use reader::Answer;
 use reader::trees;
 ghost use mathlib.Core.Path.{_≡_};
-ghost use mathlib.Core.Bool.{false};
-ghost use Prim.Native.Nat.{_<_, _≤_};
 ghost use lib.ListN.{length};
 ghost use Rattle.reader.specs.Words.{word};
-ghost use Rattle.reader.specs.Kinds.{isRule};
-ghost use Rattle.reader_laws.specs.Under.{under};
+ghost use Rattle.reader.specs.Trees.{lower};
 ghost use Rattle.derivation_rules.specs.Check.{nodeFault};
-ghost use Rattle.derivation_frames.specs.Frames.{stateOf};
+ghost use Rattle.derivation_frames.specs.Frames.{stateOf, Kept};
 ghost use Rattle.derivation_members.specs.Needs.{At};
 ghost use Rattle.derivation_nodes.specs.Nodes.{Ready};
-ghost use Rattle.derivation_walk.specs.Ways.{nodeAt, linkAt};
-ghost use Rattle.derivation_walk.specs.Walked.{visit};
-ghost use Rattle.derivation_walk.specs.Going.{goOn, Waiting, Going, Entered, Stepped};
+ghost use Rattle.derivation_walk.specs.Walked.{visit, follow};
+ghost use Rattle.derivation_walk.specs.Turns.{Entering, Opened, Following};
 
-// The refusal of node n at depth d, 0 for none, and then its premises are those that wait at that depth. The marks are scratch.
+// The refusal of node n at depth d, 0 for none; where it is 0, the frame of its first premise is written, which is that of depth d + 1.
 fn enter(
     obligation: &[u8],
     second: &[u8],
     m: usize,
     keys: &[usize],
-    reaches: &[u8],
-    weights: &[u16],
-    frames: &[usize],
-    marks: &mut [u8],
-    ways: &mut [usize],
+    reaches: &mut [u16],
+    frames: &mut [usize],
     d: usize,
     n: usize,
 ) -> usize
-    requires { ⌜ At (word (now obligation) (now second) m) (now keys) (now frames) d n × Ready (word (now obligation) (now second) m) (now keys) (now reaches) (now marks) × (length (now ways) ≡ 24582) ⌝ }
-    ensures { λ r. ⌜ (r ≡ nodeFault (word (now (obligation .entry)) (now (second .entry)) m) (stateOf (word (now (obligation .entry)) (now (second .entry)) m) (now (frames .entry)) d) n) × Entered (word (now (obligation .entry)) (now (second .entry)) m) d n r (now (ways .entry)) (now (ways .exit)) ⌝ }
+    requires { ⌜ At (word (now obligation) (now second) m) (now keys) (now frames) d n × Ready (word (now obligation) (now second) m) (now keys) (now reaches) ⌝ }
+    ensures { λ r. ⌜ (r ≡ nodeFault (word (now (obligation .entry)) (now (second .entry)) m) (stateOf (word (now (obligation .entry)) (now (second .entry)) m) (now (frames .entry)) d) n) × Opened (word (now (obligation .entry)) (now (second .entry)) m) (length (now (keys .entry))) (now (frames .entry)) d n r (now (frames .exit)) × (now (reaches .exit) ≡ now (reaches .entry)) ⌝ }
 {
-    let why = nodes::node_fault(
-        obligation,
-        second,
-        m,
-        keys,
-        reaches,
-        weights,
-        frames,
-        marks,
-        d,
-        n,
-    );
+    let why = nodes::node_fault(obligation, second, m, keys, reaches, frames, d, n);
     if why != 0 {
         return why;
     }
-    let links = trees::lower_at(obligation, second, m, n, 2);
-    ways::write(ways, d, n, links, 0);
+    let c = trees::lower_at(obligation, second, m, n, 2);
+    if c == 0 {
+        return 0;
+    }
+    push::push_premise(obligation, second, m, keys, frames, d, n, 0);
     0
 }
 
-// The next premise of depth d: writes its frame, and the premises after it wait.
-fn next_premise(
+// The walk along the premises of node n, which was entered at depth d, where `entered` nodes were entered.
+fn walk_links(
     obligation: &[u8],
     second: &[u8],
     m: usize,
     keys: &[usize],
+    reaches: &mut [u16],
     frames: &mut [usize],
-    ways: &mut [usize],
     d: usize,
-) -> usize
-    requires { ⌜ At (word (now obligation) (now second) m) (now keys) (now frames) d (nodeAt (now ways) d) × Waiting (word (now obligation) (now second) m) (length (now keys)) (now frames) (now ways) d × (linkAt (now ways) d ≡ 0 → ⊥) × (length (now ways) ≡ 24582) ⌝ }
-    ensures { λ r. ⌜ Stepped (word (now (obligation .entry)) (now (second .entry)) m) (length (now (keys .entry))) d r (now (frames .entry)) (now (frames .exit)) (now (ways .entry)) (now (ways .exit)) ⌝ }
-{
-    let n = ways::node_at(ways, d);
-    let c = ways::link_at(ways, d);
-    let b = ways::number_at(ways, d);
-    push::push_premise(obligation, second, m, keys, frames, d, n, b);
-    let rest = trees::lower_at(obligation, second, m, c, 3);
-    ways::write(ways, d, n, rest, b + 1);
-    trees::lower_at(obligation, second, m, c, 1)
-}
-
-// Walks the premises left at depths 1 to `deepest`, the deepest first, where `entered` nodes were entered before. The marks are scratch.
-fn walk_on(
-    obligation: &[u8],
-    second: &[u8],
-    m: usize,
-    keys: &[usize],
-    reaches: &[u8],
-    weights: &[u16],
-    frames: &mut [usize],
-    marks: &mut [u8],
-    ways: &mut [usize],
-    deepest: usize,
+    n: usize,
     entered: usize,
 ) -> Answer
-    requires { ⌜ Going (word (now obligation) (now second) m) (now keys) (now frames) (now ways) deepest entered × Ready (word (now obligation) (now second) m) (now keys) (now reaches) (now marks) ⌝ }
-    ensures { λ r. ⌜ r ≡ goOn (word (now (obligation .entry)) (now (second .entry)) m) (now (frames .entry)) (now (ways .entry)) deepest entered ⌝ }
+    requires { ⌜ Following (word (now obligation) (now second) m) (now keys) (now frames) d n entered × Ready (word (now obligation) (now second) m) (now keys) (now reaches) ⌝ }
+    ensures { λ r. ⌜ (r ≡ follow (word (now (obligation .entry)) (now (second .entry)) m) (lower (word (now (obligation .entry)) (now (second .entry)) m) n 2) n 0 (stateOf (word (now (obligation .entry)) (now (second .entry)) m) (now (frames .entry)) d) entered) × Kept d (now (frames .entry)) (now (frames .exit)) × (now (reaches .exit) ≡ now (reaches .entry)) ⌝ }
 {
-    let mut d = deepest;
+    let mut c = trees::lower_at(obligation, second, m, n, 2);
+    let mut b = 0;
     let mut count = entered;
-    while d != 0 {
-        let n = next_premise(obligation, second, m, keys, frames, ways, d);
-        let why = enter(
+    while c != 0 {
+        let x = trees::lower_at(obligation, second, m, c, 1);
+        let a = walk_node(
             obligation,
             second,
             m,
             keys,
             reaches,
-            weights,
             frames,
-            marks,
-            ways,
             d + 1,
-            n,
+            x,
+            count,
         );
-        count += 1;
-        if why != 0 {
-            return Answer {
-                refusal: why,
-                file: 2,
-                at: n,
-                nodes: count,
-            };
+        if a.refusal != 0 {
+            return a;
         }
-        d = ways::waiting_from(ways, d + 1);
+        count = a.nodes;
+        b += 1;
+        c = trees::lower_at(obligation, second, m, c, 3);
+        if c != 0 {
+            push::push_premise(obligation, second, m, keys, frames, d, n, b);
+        }
     }
     Answer {
         refusal: 0,
@@ -131,35 +89,58 @@ fn walk_on(
     }
 }
 
-// The walk from the root, whose frame is that of depth 1. The marks and the ways are scratch.
-pub fn walk(
+// The walk from node n at depth d, where `count` nodes were entered before it.
+fn walk_node(
     obligation: &[u8],
     second: &[u8],
     m: usize,
     keys: &[usize],
-    reaches: &[u8],
-    weights: &[u16],
+    reaches: &mut [u16],
     frames: &mut [usize],
-    marks: &mut [u8],
-    ways: &mut [usize],
-    root: usize,
+    d: usize,
+    n: usize,
+    count: usize,
 ) -> Answer
-    requires { ⌜ At (word (now obligation) (now second) m) (now keys) (now frames) 1 root × Ready (word (now obligation) (now second) m) (now keys) (now reaches) (now marks) × (length (now ways) ≡ 24582) × (isRule 2 (word (now obligation) (now second) m 0 0) ≡ false) × (0 < root) × (under 2 (word (now obligation) (now second) m) root ≤ 4294967296) ⌝ }
-    ensures { λ r. ⌜ r ≡ visit (word (now (obligation .entry)) (now (second .entry)) m) root (stateOf (word (now (obligation .entry)) (now (second .entry)) m) (now (frames .entry)) 1) 0 ⌝ }
+    requires { ⌜ Entering (word (now obligation) (now second) m) (now keys) (now frames) d n count × Ready (word (now obligation) (now second) m) (now keys) (now reaches) ⌝ }
+    ensures { λ r. ⌜ (r ≡ visit (word (now (obligation .entry)) (now (second .entry)) m) n (stateOf (word (now (obligation .entry)) (now (second .entry)) m) (now (frames .entry)) d) count) × Kept d (now (frames .entry)) (now (frames .exit)) × (now (reaches .exit) ≡ now (reaches .entry)) ⌝ }
 {
-    let why = enter(
+    let why = enter(obligation, second, m, keys, reaches, frames, d, n);
+    if why != 0 {
+        return Answer {
+            refusal: why,
+            file: 2,
+            at: n,
+            nodes: count + 1,
+        };
+    }
+    walk_links(
         obligation,
         second,
         m,
         keys,
         reaches,
-        weights,
         frames,
-        marks,
-        ways,
-        1,
-        root,
-    );
+        d,
+        n,
+        count + 1,
+    )
+}
+
+// The walk from the root, whose frame is that of depth 1. The root is entered here and not by `walk_node`: the compiler puts a function that is called
+// at one place into its caller, and the tables of a node's tests would then be in every frame of the walk's stack.
+pub fn walk(
+    obligation: &[u8],
+    second: &[u8],
+    m: usize,
+    keys: &[usize],
+    reaches: &mut [u16],
+    frames: &mut [usize],
+    root: usize,
+) -> Answer
+    requires { ⌜ Entering (word (now obligation) (now second) m) (now keys) (now frames) 1 root 0 × Ready (word (now obligation) (now second) m) (now keys) (now reaches) ⌝ }
+    ensures { λ r. ⌜ (r ≡ visit (word (now (obligation .entry)) (now (second .entry)) m) root (stateOf (word (now (obligation .entry)) (now (second .entry)) m) (now (frames .entry)) 1) 0) × Kept 1 (now (frames .entry)) (now (frames .exit)) × (now (reaches .exit) ≡ now (reaches .entry)) ⌝ }
+{
+    let why = enter(obligation, second, m, keys, reaches, frames, 1, root);
     if why != 0 {
         return Answer {
             refusal: why,
@@ -168,18 +149,5 @@ pub fn walk(
             nodes: 1,
         };
     }
-    let d = ways::waiting_from(ways, 1);
-    walk_on(
-        obligation,
-        second,
-        m,
-        keys,
-        reaches,
-        weights,
-        frames,
-        marks,
-        ways,
-        d,
-        1,
-    )
+    walk_links(obligation, second, m, keys, reaches, frames, 1, root, 1)
 }

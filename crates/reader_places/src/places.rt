@@ -154,16 +154,8 @@ pub fn read_proof(obligation: &[u8], proof: &[u8]) -> Answer
     numbered_reading(obligation, proof, m, &mut numbers[..size])
 }
 
-// Places 1 to 12 of an obligation and a derivation, whose records are not typed: no number is wanted. The tables are scratch.
-pub fn derivation_reading(
-    obligation: &[u8],
-    derivation: &[u8],
-    slots: &mut [u32],
-    weights: &mut [u16],
-    named: &mut [u8],
-    passed: &mut [u8],
-) -> Answer
-    requires { ⌜ Roomy 2 (now slots) (now weights) (now named) (now passed) × Zeros (now slots) × Blank (now weights) × Cleared (now named) × Cleared (now passed) ⌝ }
+// Places 1 to 12 of an obligation and a derivation, whose records are not typed: no number is wanted.
+pub fn read_derivation(obligation: &[u8], derivation: &[u8]) -> Answer
     ensures { λ r. ⌜ r ≡ reading 2 (now (obligation .entry)) (now (derivation .entry)) ⌝ }
 {
     let r = obligation_reading(obligation);
@@ -173,6 +165,10 @@ pub fn derivation_reading(
     let m = words::word_of(obligation, 0, 1);
     let numbers = [0usize; 1];
     let mut seen = [0usize; 1];
+    let mut slots = [0u32; 406144];
+    let mut table = [0u16; 201024];
+    let mut named = [0u8; 201024];
+    let mut passed = [0u8; 201024];
     second_reading(
         obligation,
         derivation,
@@ -180,26 +176,8 @@ pub fn derivation_reading(
         2,
         &numbers,
         &mut seen,
-        slots,
-        weights,
-        named,
-        passed,
-    )
-}
-
-// The same with tables of its own.
-pub fn read_derivation(obligation: &[u8], derivation: &[u8]) -> Answer
-    ensures { λ r. ⌜ r ≡ reading 2 (now (obligation .entry)) (now (derivation .entry)) ⌝ }
-{
-    let mut slots = [0u32; 406144];
-    let mut weights = [0u16; 201024];
-    let mut named = [0u8; 201024];
-    let mut passed = [0u8; 201024];
-    derivation_reading(
-        obligation,
-        derivation,
         &mut slots,
-        &mut weights,
+        &mut table,
         &mut named,
         &mut passed,
     )

@@ -13,7 +13,7 @@ store-start-spec = tie.close (tie.spec
     -- child-at-requires: word-at2; 1 word-at; 6 args
     (λ c κs. search needs)
     -- key-of-requires: child-at; 1 word-at2; 2 word-at; 7 args
-    (λ c κs. (c .before .before .before .before .before .before .before .pre .table, formula-in _ _ _ _ _ (c .before .before .before .before .before .before .before .pre) (c .before .word-at2 .ensures) (c .child-at .ensures)))
+    (λ c κs. (c .before .before .before .before .before .before .before .pre .table, formula-in _ _ _ _ _ _ (c .before .before .before .before .before .before .before .pre) (c .before .word-at2 .ensures) (c .child-at .ensures)))
     -- chain-length-requires: key-of; 1 child-at; 2 word-at2; 3 word-at; 8 args
     (λ c κs. search needs)
     -- write-requires: write-arg; 1 chain-length; 2 key-of; 3 child-at; 4 word-at2; 5 word-at; 10 args

@@ -1,35 +1,39 @@
 use borrow.Author.Needs.{needs}
 use native.Mathlib.Omega.{arith}
-use Prim.Native.Nat.{_-_, _≤_}
+use Prim.Native.Nat.{_*_, _-_, _<_, _≤_}
 use mathlib.Core.Path.{_≡_, refl}
-use lib.ListN.{length}
+use lib.ListN.{length, set, length-set}
 use Rattle.reader.specs.Words.{word}
-use Rattle.derivation_closedness.specs.Marks.{Marked, Unmarked, unmarked-start, unmarked-more, marked-start, marked-more, marked-end}
+use Rattle.derivation_closedness.specs.Marks.{Changed, withMark, changed-none, changed-more, changed-end, changed-marked, next-unmarked}
 use Rattle.derivation_closedness.proofs.marks.mark_all.Statement.{statement}
 use Rattle.derivation_closedness.proofs.marks.mark_all.Tie as tie
 
 abbrev Inv-loop : tie.InvT-loop
-Inv-loop obligation second m marks₀ c n j₀ marks j = (length marks ≡ length marks₀) × (c ≤ j) × Marked (word obligation second m) c marks j × Unmarked c n marks₀ marks
+Inv-loop obligation second m reaches₀ c n j₀ reaches j =
+    (length reaches ≡ length reaches₀) × (2 * length reaches < 18446744073709551616) × (c ≤ j) × (j - c ≤ n - c) × Changed (withMark (word obligation second m) c) c j reaches₀ reaches
 
 abbrev μ-loop : tie.MeasureT-loop
-μ-loop obligation second m marks₀ c n j₀ marks j = n - j
+μ-loop obligation second m reaches₀ c n j₀ reaches j = n - j
 
 pub mark-all-spec : {M : Type 1} → statement M
 mark-all-spec = tie.close (tie.spec
     Inv-loop μ-loop
     -- loop-holds: 3 args
-    (λ c. (refl, omega arith, search marked-start, unmarked-start _ _ _))
-    -- mark-of-requires: mark-of-arg; 1 loop-test; 2 loop; 6 args
-    (λ c κs. search needs)
-    -- slice-write-marks: mark-of; 1 mark-of-arg; 2 loop-test; 3 loop; 7 args
+    (λ c. (refl, omega arith, omega arith, omega arith, changed-none _ _ _))
+    -- marked-entry-requires: marked-entry-arg; 1 loop-test; 2 loop; 6 args
+    (λ c κs. let l = c .before .before .loop .inv in let p = c .before .before .before .before .before .before .pre in (omega arith, next-unmarked _ _ _ _ _ (p .1) (l .4), changed-marked _ _ _ _ _ (p .1) (l .4)))
+    -- mul-reaches: marked-entry; 1 marked-entry-arg; 2 loop-test; 3 loop; 7 args
     (λ c. search needs)
-    -- add-j: mark-of; 1 mark-of-arg; 2 loop-test; 3 loop; 7 args
+    -- slice-write-reaches: marked-entry; 1 marked-entry-arg; 2 loop-test; 3 loop; 7 args
     (λ c. search needs)
-    -- loop-less: mark-of; 1 mark-of-arg; 2 loop-test; 3 loop; 7 args
+    -- add-j: marked-entry; 1 marked-entry-arg; 2 loop-test; 3 loop; 7 args
+    (λ c. search needs)
+    -- loop-less: marked-entry; 1 marked-entry-arg; 2 loop-test; 3 loop; 7 args
     (λ c. omega arith)
-    -- loop-again: mark-of; 1 mark-of-arg; 2 loop-test; 3 loop; 7 args
-    (λ c. let l = c .before .before .before .loop in (search needs, omega (arith, l .inv .1), search marked-more, unmarked-more _ _ _ _ _ _ (l .inv .1) (c .before .before .loop-test .taken) (l .inv .3)))
+    -- loop-again: marked-entry; 1 marked-entry-arg; 2 loop-test; 3 loop; 7 args
+    (λ c. let l = c .before .before .before .loop in let long : length (set (l .reaches) (l .j) (c .marked-entry .result)) ≡ length (l .reaches) = length-set (l .reaches) (l .j) (c .marked-entry .result) in
+    (omega arith, omega arith, omega arith, omega arith, changed-more _ _ _ (l .j) _ (l .reaches) (omega arith) (l .inv .2) (l .inv .4) (c .marked-entry .ensures)))
     -- same-length: loop-test; 1 loop; 5 args
     (λ c. search needs)
     -- returns: loop-test; 1 loop; 5 args
-    (λ c. let l = c .before .loop .inv in (marked-end _ _ _ _ _ (c .loop-test .left) (l .2), l .3)))
+    (λ c. let l = c .before .loop .inv in let e = changed-end _ _ _ _ _ _ (c .loop-test .left) (l .3) (l .4) in (changed-marked _ _ _ _ _ (c .before .before .before .before .before .pre .1) e, e)))

@@ -1,5 +1,4 @@
 use borrow.Author.Needs.{needs}
-use native.Mathlib.Omega.{arith}
 use Rattle.derivation_fits.specs.Fits.{forms-equal}
 use Rattle.derivation_fits.proofs.fits.forms_equal.Statement.{statement}
 use Rattle.derivation_fits.proofs.fits.forms_equal.Tie as tie

@@ -1,6 +1,6 @@
 use borrow.Author.Needs.{needs}
 use native.Mathlib.Omega.{arith}
-use Prim.Native.Nat.{suc, _-_, _<_, _≤_}
+use Prim.Native.Nat.{suc, _-_, _≤_}
 use mathlib.Core.Path.{_≡_, refl}
 use Rattle.reader.specs.Words.{word}
 use Rattle.reader.specs.Tests.{every}
@@ -11,10 +11,11 @@ use Rattle.derivation_fresh.proofs.fresh.added_lacks.Statement.{stateme
 use Rattle.derivation_fresh.proofs.fresh.added_lacks.Tie as tie
 
 abbrev Inv-loop : tie.InvT-loop
-Inv-loop obligation second m keys frames marks d c top s f₀ f = (s ≤ f) × (every (lacks c) (addedFrom (word obligation second m) frames (d - s) (suc s)) ≡ every (lacks c) (addedFrom (word obligation second m) frames (d - f) (suc f)))
+Inv-loop obligation second m keys frames reaches d c top s f₀ f =
+    (s ≤ f) × (every (lacks c) (addedFrom (word obligation second m) frames (d - s) (suc s)) ≡ every (lacks c) (addedFrom (word obligation second m) frames (d - f) (suc f)))
 
 abbrev μ-loop : tie.MeasureT-loop
-μ-loop obligation second m keys frames marks d c top s f₀ f = d - f
+μ-loop obligation second m keys frames reaches d c top s f₀ f = d - f
 
 pub added-lacks-spec : {M : Type 1} → statement M
 added-lacks-spec = tie.close (tie.spec

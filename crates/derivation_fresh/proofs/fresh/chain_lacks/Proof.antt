@@ -1,21 +1,20 @@
 use borrow.Author.Needs.{needs}
-use native.Mathlib.Omega.{arith}
 use Prim.Native.Nat.{_<_, _≤_}
 use mathlib.Core.Path.{_≡_, refl}
 use lib.ListN.{length}
 use Rattle.reader.specs.Words.{word}
 use Rattle.reader.specs.Tests.{every}
 use Rattle.derivation_frames.specs.Frames.{chainTrees}
-use Rattle.derivation_forms.specs.Formed.{item-in, rest-in, rest-most, item-falls, rest-falls, key-normal, chain-end, chain-stop, chain-more}
+use Rattle.derivation_forms.specs.Formed.{item-in, rest-in, rest-most, item-falls, rest-falls, chain-end, chain-stop, chain-more}
 use Rattle.derivation_fresh.specs.Fresh.{lacks, lacks-tree, item-narrow}
 use Rattle.derivation_fresh.proofs.fresh.chain_lacks.Statement.{statement}
 use Rattle.derivation_fresh.proofs.fresh.chain_lacks.Tie as tie
 
 abbrev Inv-loop : tie.InvT-loop
-Inv-loop obligation second m keys marks c top chain l₀ l = (l < length keys) × (l ≤ top) × (every (lacks c) (chainTrees (word obligation second m) chain) ≡ every (lacks c) (chainTrees (word obligation second m) l))
+Inv-loop obligation second m keys reaches c top chain l₀ l = (l < length keys) × (l ≤ top) × (every (lacks c) (chainTrees (word obligation second m) chain) ≡ every (lacks c) (chainTrees (word obligation second m) l))
 
 abbrev μ-loop : tie.MeasureT-loop
-μ-loop obligation second m keys marks c top chain l₀ l = l
+μ-loop obligation second m keys reaches c top chain l₀ l = l
 
 pub chain-lacks-spec : {M : Type 1} → statement M
 chain-lacks-spec = tie.close (tie.spec

@@ -1,5 +1,4 @@
 use borrow.Author.Needs.{needs}
-use native.Mathlib.Omega.{arith}
 use Rattle.derivation_fresh.specs.Fresh.{body-zero, body-some}
 use Rattle.derivation_fresh.proofs.fresh.entry_body.Statement.{statement}
 use Rattle.derivation_fresh.proofs.fresh.entry_body.Tie as tie

@@ -1,5 +1,4 @@
 use borrow.Author.Needs.{needs}
-use native.Mathlib.Omega.{arith}
 use Rattle.derivation_members.specs.Members.{added-none, added-one}
 use Rattle.derivation_fresh.proofs.fresh.entry_lacks.Statement.{statement}
 use Rattle.derivation_fresh.proofs.fresh.entry_lacks.Tie as tie

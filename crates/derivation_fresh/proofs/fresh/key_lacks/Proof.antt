@@ -1,5 +1,3 @@
-use borrow.Author.Needs.{needs}
-use native.Mathlib.Omega.{arith}
 use Rattle.derivation_fresh.specs.Fresh.{few-keys, few-marked, lacks-key}
 use Rattle.derivation_fresh.proofs.fresh.key_lacks.Statement.{statement}
 use Rattle.derivation_fresh.proofs.fresh.key_lacks.Tie as tie

@@ -1,5 +1,4 @@
 use borrow.Author.Needs.{needs}
-use native.Mathlib.Omega.{arith}
 use Rattle.reader.specs.TestLaws.{boths}
 use Rattle.derivation_members.specs.Members.{every-member, start-in, chain-below}
 use Rattle.derivation_fresh.specs.Fresh.{chain-narrow}

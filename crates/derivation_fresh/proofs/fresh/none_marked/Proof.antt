@@ -1,5 +1,4 @@
 use borrow.Author.Needs.{needs}
-use native.Mathlib.Omega.{arith}
 use Rattle.reader.specs.TestLaws.{boths}
 use Rattle.derivation_fresh.specs.Fresh.{goal-narrow, fresh-members, marked-to}
 use Rattle.derivation_fresh.proofs.fresh.none_marked.Statement.{statement}

@@ -1,8 +1,8 @@
 use borrow.Author.Needs.{needs}
 use native.Mathlib.Omega.{arith}
-use Prim.Native.Nat.{_-_, _<_, _≤_}
+use Prim.Native.Nat.{_-_, _≤_}
 use lib.ListN.{length}
-use Rattle.derivation_members.specs.Members.{frame-in, start-in, frame-next}
+use Rattle.derivation_members.specs.Members.{start-in, frame-next}
 use Rattle.derivation_fresh.specs.Fresh.{Rising, rising-start, rising-more, rising-end}
 use Rattle.derivation_fresh.proofs.fresh.top_of.Statement.{statement}
 use Rattle.derivation_fresh.proofs.fresh.top_of.Tie as tie

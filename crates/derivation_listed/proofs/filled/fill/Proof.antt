@@ -1,7 +1,7 @@
 use borrow.Author.Needs.{needs}
 use native.Mathlib.Omega.{arith}
 use Rattle.derivation_members.specs.Members.{frame-in, start-in, chain-below}
-use Rattle.derivation_listed.specs.Filled.{chain-few, chain-of}
+use Rattle.derivation_listed.specs.Filled.{outside-then, chain-few, chain-of}
 use Rattle.derivation_listed.proofs.filled.fill.Statement.{statement}
 use Rattle.derivation_listed.proofs.filled.fill.Tie as tie
 
@@ -20,9 +20,9 @@ fill-spec = tie.close (tie.spec
       c .before .before .before .before .before .before .start-at .ensures,
       search needs,
       chain-of _ _ _ _ _ _ _ (c .before .before .before .before .before .entry-at .ensures)
-          (c .before .before .before .fill-chain .ensures),
+          (c .before .before .before .fill-chain .ensures .0),
     ))
     -- same-length: 1 listed2; 2 fill-added; 3 fill-added-arg; 5 listed; 6 fill-chain; 7 fill-chain-arg; 8 entry-at; 9 start-at; 15 args
     (λ c. search needs)
     -- returns: 1 listed2; 2 fill-added; 3 fill-added-arg; 5 listed; 6 fill-chain; 7 fill-chain-arg; 8 entry-at; 9 start-at; 15 args
-    (λ c. c .before .before .fill-added .ensures))
+    (λ c. let a = c .before .before .fill-added .ensures in (a .0, outside-then _ _ _ _ _ (a .2) (c .before .before .before .before .before .before .fill-chain .ensures .1) (a .1))))

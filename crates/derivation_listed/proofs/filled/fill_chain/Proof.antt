@@ -6,13 +6,13 @@ use lib.ListN.{length}
 use Rattle.reader.specs.Words.{word}
 use Rattle.derivation_frames.specs.Frames.{chainTrees}
 use Rattle.derivation_forms.specs.Formed.{item-in, rest-in, rest-falls}
-use Rattle.derivation_listed.specs.Filled.{Filled, filled-none, chain-filled, chain-room, chain-next}
+use Rattle.derivation_listed.specs.Filled.{Filled, Outside, outside-self, outside-next, filled-none, chain-filled, chain-room, chain-next}
 use Rattle.derivation_listed.proofs.filled.fill_chain.Statement.{statement}
 use Rattle.derivation_listed.proofs.filled.fill_chain.Tie as tie
 
 abbrev Inv-loop : tie.InvT-loop
 Inv-loop obligation second m keys c listed₀ l₀ n₀ listed l n =
-    (length listed ≡ length listed₀) × (l < length keys) × Filled (word obligation second m) (length keys) listed n (chainTrees (word obligation second m) l) (chainTrees (word obligation second m) c)
+    (length listed ≡ length listed₀) × (l < length keys) × Filled (word obligation second m) (length keys) listed n (chainTrees (word obligation second m) l) (chainTrees (word obligation second m) c) × Outside n listed₀ listed
 
 abbrev μ-loop : tie.MeasureT-loop
 μ-loop obligation second m keys c listed₀ l₀ n₀ listed l n = l
@@ -21,7 +21,7 @@ pub fill-chain-spec : {M : Type 1} → statement M
 fill-chain-spec = tie.close (tie.spec
     Inv-loop μ-loop
     -- loop-holds: 4 args
-    (λ c. (refl, search needs, filled-none _ _ _ _))
+    (λ c. (refl, search needs, filled-none _ _ _ _, outside-self _ _))
     -- lower-at-requires: loop-test; 1 loop; 6 args
     (λ c κs. search needs)
     -- key-of-requires: lower-at; 1 loop-test; 2 loop; 7 args
@@ -56,8 +56,9 @@ fill-chain-spec = tie.close (tie.spec
       chain-next _ _ _ _ _ _ (l .2) (c .before .before .before .before .before .before .before .loop-test .taken) _ _
           (c .before .before .before .before .before .before .lower-at .ensures) (c .before .before .before .before .before .key-of .ensures) _ _ (c .lower-at2 .ensures)
           (c .before .before .before .store .ensures) (p .2) (l .0 ∙ p .3),
+      outside-next _ _ _ _ _ (l .3) (c .before .before .before .store .ensures),
     ))
     -- same-length: loop-test; 1 loop; 6 args
     (λ c. search needs)
     -- returns: loop-test; 1 loop; 6 args
-    (λ c. search chain-filled))
+    (λ c. let l = c .before .loop .inv in (search chain-filled, l .3)))

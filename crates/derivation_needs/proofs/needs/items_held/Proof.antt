@@ -20,7 +20,7 @@ items-held-spec = tie.close (tie.spec
     -- place-all-requires: slots; 1 listed3; 2 listed2; 3 fill; 4 listed; 9 args
     (λ c κs. (
       zeros-free 8194,
-      listed-space _ _ _ _ _ _ _ (c .before .before .before .before .before .before .before .before .before .pre .0 .framed) (c .before .before .before .fill .ensures)
+      listed-space _ _ _ _ _ _ _ (c .before .before .before .before .before .before .before .before .before .pre .0 .framed) (c .before .before .before .fill .ensures .0)
           (c .before .before .before .fill .kept .1 .1 .1 .1 .1 .1 .0) (length-replicate {A = ℕ} 8194 0),
     ))
     -- slice-aggregate-items-listed: listed4; 1 slots2; 2 place-all; 3 slots; 4 listed3; 5 listed2; 6 fill; 7 listed; 12 args
@@ -29,7 +29,7 @@ items-held-spec = tie.close (tie.spec
     (λ c. search needs)
     -- items-listed-requires: slots3; 1 listed4; 2 slots2; 3 place-all; 4 slots; 5 listed3; 6 listed2; 7 fill; 8 listed; 13 args
     (λ c κs. let p = c .before .before .before .before .before .before .before .before .before .before .before .before .before .pre in let f =
-    c .before .before .before .before .before .before .before .fill .ensures in (
+    c .before .before .before .before .before .before .before .fill .ensures .0 in (
       p .0 .table,
       p .1,
       listed-space _ _ _ _ _ _ _ (p .0 .framed) f
@@ -38,4 +38,4 @@ items-held-spec = tie.close (tie.spec
       filled-own _ _ _ _ _ f,
     ))
     -- returns: items-listed; 1 slots3; 2 listed4; 3 slots2; 4 place-all; 5 slots; 6 listed3; 7 listed2; 8 fill; 9 listed; 14 args
-    (λ c. listed-every _ _ _ _ _ (c .before .before .before .before .before .before .before .before .fill .ensures) _ _ (c .items-listed .ensures)))
+    (λ c. listed-every _ _ _ _ _ (c .before .before .before .before .before .before .before .before .fill .ensures .0) _ _ (c .items-listed .ensures)))

@@ -30,43 +30,43 @@ use Rattle.derivation_replacement.proofs.replace.second_other.Reads as 
 use Rattle.derivation_replacement.proofs.replace.+fits_at+fits_part+others_fit.{statement}
 use Rattle.derivation_replacement.proofs.replace.+fits_at+fits_part+others_fit.Tie.{close}
 
-abbrev μ-fits-at : Measures 5 fits-at-kinds.ps ℕ
-μ-fits-at κs a = 3 * rank (a .1 .1 .1 .1 .1 .1 .1 .1 .0) + 2
+abbrev μ-fits-at : Measures 4 fits-at-kinds.ps ℕ
+μ-fits-at κs a = 3 * rank (a .1 .1 .1 .1 .1 .1 .1 .0) + 2
 
-abbrev μ-fits-part : Measures 5 fits-part-kinds.ps ℕ
-μ-fits-part κs a = 3 * rank (a .1 .1 .1 .1 .1 .1 .1 .1 .0)
+abbrev μ-fits-part : Measures 4 fits-part-kinds.ps ℕ
+μ-fits-part κs a = 3 * rank (a .1 .1 .1 .1 .1 .1 .1 .0)
 
-abbrev μ-others-fit : Measures 5 others-fit-kinds.ps ℕ
-μ-others-fit κs a = 3 * rank (a .1 .1 .1 .1 .1 .1 .1 .1 .0) + 1
+abbrev μ-others-fit : Measures 4 others-fit-kinds.ps ℕ
+μ-others-fit κs a = 3 * rank (a .1 .1 .1 .1 .1 .1 .1 .0) + 1
 
-abbrev fits-at-at : ℕ → In 5 fits-at-kinds.ps
-fits-at-at t = and 5 fits-at-kinds.ps (is 5 fits-at-kinds.ps μ-fits-at t) fits-at.Pre
+abbrev fits-at-at : ℕ → In 4 fits-at-kinds.ps
+fits-at-at t = and 4 fits-at-kinds.ps (is 4 fits-at-kinds.ps μ-fits-at t) fits-at.Pre
 
-abbrev fits-at-below : ℕ → In 5 fits-at-kinds.ps
-fits-at-below t = and 5 fits-at-kinds.ps (falls 5 fits-at-kinds.ps _<_ μ-fits-at t) fits-at.Pre
+abbrev fits-at-below : ℕ → In 4 fits-at-kinds.ps
+fits-at-below t = and 4 fits-at-kinds.ps (falls 4 fits-at-kinds.ps _<_ μ-fits-at t) fits-at.Pre
 
-abbrev fits-part-at : ℕ → In 5 fits-part-kinds.ps
-fits-part-at t = and 5 fits-part-kinds.ps (is 5 fits-part-kinds.ps μ-fits-part t) fits-part.Pre
+abbrev fits-part-at : ℕ → In 4 fits-part-kinds.ps
+fits-part-at t = and 4 fits-part-kinds.ps (is 4 fits-part-kinds.ps μ-fits-part t) fits-part.Pre
 
-abbrev fits-part-below : ℕ → In 5 fits-part-kinds.ps
+abbrev fits-part-below : ℕ → In 4 fits-part-kinds.ps
 fits-part-below t =
-    and 5 fits-part-kinds.ps (falls 5 fits-part-kinds.ps _<_ μ-fits-part t) fits-part.Pre
+    and 4 fits-part-kinds.ps (falls 4 fits-part-kinds.ps _<_ μ-fits-part t) fits-part.Pre
 
-abbrev others-fit-at : ℕ → In 5 others-fit-kinds.ps
+abbrev others-fit-at : ℕ → In 4 others-fit-kinds.ps
 others-fit-at t =
-    and 5 others-fit-kinds.ps (is 5 others-fit-kinds.ps μ-others-fit t) others-fit.Pre
+    and 4 others-fit-kinds.ps (is 4 others-fit-kinds.ps μ-others-fit t) others-fit.Pre
 
-abbrev others-fit-below : ℕ → In 5 others-fit-kinds.ps
+abbrev others-fit-below : ℕ → In 4 others-fit-kinds.ps
 others-fit-below t =
-    and 5 others-fit-kinds.ps (falls 5 others-fit-kinds.ps _<_ μ-others-fit t) others-fit.Pre
+    and 4 others-fit-kinds.ps (falls 4 others-fit-kinds.ps _<_ μ-others-fit t) others-fit.Pre
 
 abbrev fits-at-Inv-loop : fits-at-lts.InvT-loop
-fits-at-Inv-loop obligation second m keys reaches weights x t j d y₀ z₀ e₀ y z e =
+fits-at-Inv-loop obligation second m keys reaches x t j d y₀ z₀ e₀ y z e =
     (fits (word obligation second m) x t j d ≡ fits (word obligation second m) y t z e) × Normal (word obligation second m) (length keys) y × Normal (word obligation second m) (length keys) z ×
     (e + rank z < 18446744073709551616) × (rank z ≤ rank j)
 
 abbrev fits-at-μ-loop : fits-at-lts.MeasureT-loop
-fits-at-μ-loop obligation second m keys reaches weights x t j d y₀ z₀ e₀ y z e = rank z
+fits-at-μ-loop obligation second m keys reaches x t j d y₀ z₀ e₀ y z e = rank z
 
 abbrev fits-at-calls : ℕ → fits-at-lts.Claims
 fits-at-calls t = (
@@ -95,54 +95,54 @@ others-fit-calls t = (first-other-reads.Asked, first-other-reads.Learnt, second-
 pub +fits-at+fits-part+others-fit-spec : {M : Type 1} → statement M
 +fits-at+fits-part+others-fit-spec = close μ-fits-at μ-fits-part μ-others-fit
     (λ t. fits-at-lts.spec (fits-at-calls t) (fits-at-at t) fits-at.Post fits-at-Inv-loop fits-at-μ-loop
-    -- loop-holds: 5 args
-    (λ c. let p = c .before .before .before .before .before .pre .1 in (refl, p .1, p .3, p .4, omega arith))
-    -- is-below-requires: loop; 6 args
-    (λ c κs. let p = c .before .before .before .before .before .before .pre .1 in (c .loop .inv .2, p .0 .room, p .0 .reached))
-    -- is-index-requires: if1; 1 is-below; 2 loop; 8 args
+    -- loop-holds: 4 args
+    (λ c. let p = c .before .before .before .before .pre .1 in (refl, p .1, p .3, p .4, omega arith))
+    -- is-below-requires: loop; 5 args
+    (λ c κs. let p = c .before .before .before .before .before .pre .1 in (c .loop .inv .2, p .0 .room, p .0 .reached))
+    -- is-index-requires: if1; 1 is-below; 2 loop; 7 args
     (λ c κs. c .before .before .loop .inv .2)
-    -- returns: if2; 1 is-index; 2 if1; 3 is-below; 4 loop; 10 args
-    (λ c. let p = c .before .before .before .before .before .before .before .before .before .before .pre .1 in let l = c .before .before .before .before .loop .inv in fits-index _ _ _ _ _ _ (l .1)
+    -- returns: if2; 1 is-index; 2 if1; 3 is-below; 4 loop; 9 args
+    (λ c. let p = c .before .before .before .before .before .before .before .before .before .pre .1 in let l = c .before .before .before .before .loop .inv in fits-index _ _ _ _ _ _ (l .1)
     (l .2) _ (c .before .before .before .is-below .ensures) (not-true _ (c .before .before .if1 .taken)) _ (c .before .is-index .ensures) (p .2) (c .if2 .taken) ∙ sym (l .0))
-    -- heads-fit-requires: if2; 1 is-index; 2 if1; 3 is-below; 4 loop; 10 args
+    -- heads-fit-requires: if2; 1 is-index; 2 if1; 3 is-below; 4 loop; 9 args
     (λ c κs. let l = c .before .before .before .before .loop .inv in (l .1, l .2))
-    -- returns-2: if3; 1 heads-fit; 2 if2; 3 is-index; 4 if1; 5 is-below; 6 loop; 12 args
+    -- returns-2: if3; 1 heads-fit; 2 if2; 3 is-index; 4 if1; 5 is-below; 6 loop; 11 args
     (λ c. let l = c .before .before .before .before .before .before .loop .inv in fits-heads _ _ _ _ _ _ (l .1) (l .2) _ (c .before .before .before .before .before .is-below .ensures)
     (not-true _ (c .before .before .before .before .if1 .taken)) _ (c .before .before .before .is-index .ensures) (c .before .before .if2 .left) _ (c .before .heads-fit .ensures) (c .if3 .taken) ∙
     sym (l .0))
-    -- last-part-requires: if3; 1 heads-fit; 2 if2; 3 is-index; 4 if1; 5 is-below; 6 loop; 12 args
-    (λ c κs. (c .before .before .before .before .before .before .before .before .before .before .before .before .pre .1 .0 .table, c .before .before .before .before .before .before .loop .inv .2))
-    -- others-fit-requires: last-part; 1 if3; 2 heads-fit; 3 if2; 4 is-index; 5 if1; 6 is-below; 7 loop; 13 args
-    (λ c κs. let p = c .before .before .before .before .before .before .before .before .before .before .before .before .before .pre in let q = p .1 in let l =
+    -- last-part-requires: if3; 1 heads-fit; 2 if2; 3 is-index; 4 if1; 5 is-below; 6 loop; 11 args
+    (λ c κs. (c .before .before .before .before .before .before .before .before .before .before .before .pre .1 .0 .table, c .before .before .before .before .before .before .loop .inv .2))
+    -- others-fit-requires: last-part; 1 if3; 2 heads-fit; 3 if2; 4 is-index; 5 if1; 6 is-below; 7 loop; 12 args
+    (λ c κs. let p = c .before .before .before .before .before .before .before .before .before .before .before .before .pre in let q = p .1 in let l =
     c .before .before .before .before .before .before .before .loop .inv in let some = open-positive _ _ _ _ (c .before .before .before .before .before .before .is-below .ensures)
     (not-true _ (c .before .before .before .before .before .if1 .taken)) in (omega (arith, p .0, l .4), (q .0, l .1, q .2, l .2, some, l .3)))
-    -- returns-3: if4; 1 others-fit; 2 last-part; 3 if3; 4 heads-fit; 5 if2; 6 is-index; 7 if1; 8 is-below; 9 loop; 15 args
+    -- returns-3: if4; 1 others-fit; 2 last-part; 3 if3; 4 heads-fit; 5 if2; 6 is-index; 7 if1; 8 is-below; 9 loop; 14 args
     (λ c. let l = c .before .before .before .before .before .before .before .before .before .loop .inv in let w = c .before .before .last-part .ensures in fits-others _ _ _ _ _ _ (l .1) (l .2) _
     (c .before .before .before .before .before .before .before .before .is-below .ensures) (not-true _ (c .before .before .before .before .before .before .before .if1 .taken)) _
     (c .before .before .before .before .before .before .is-index .ensures) (c .before .before .before .before .before .if2 .left) _ (c .before .before .before .before .heads-fit .ensures)
     (c .before .before .before .if3 .left) _ (w .0) (w .1) _ (c .before .others-fit .ensures) (c .if4 .taken) ∙ sym (l .0))
-    -- part-depth-requires: if4; 1 others-fit; 2 last-part; 3 if3; 4 heads-fit; 5 if2; 6 is-index; 7 if1; 8 is-below; 9 loop; 15 args
+    -- part-depth-requires: if4; 1 others-fit; 2 last-part; 3 if3; 4 heads-fit; 5 if2; 6 is-index; 7 if1; 8 is-below; 9 loop; 14 args
     (λ c κs. let l = c .before .before .before .before .before .before .before .before .before .loop .inv in let some = open-positive _ _ _ _
     (c .before .before .before .before .before .before .before .before .is-below .ensures) (not-true _ (c .before .before .before .before .before .before .before .if1 .taken)) in
     (l .2, depth-room _ _ some (l .3)))
-    -- part-of-requires: part-depth; 1 if4; 2 others-fit; 3 last-part; 4 if3; 5 heads-fit; 6 if2; 7 is-index; 8 if1; 9 is-below; 10 loop; 16 args
+    -- part-of-requires: part-depth; 1 if4; 2 others-fit; 3 last-part; 4 if3; 5 heads-fit; 6 if2; 7 is-index; 8 if1; 9 is-below; 10 loop; 15 args
     (λ c κs. let w = c .before .before .before .last-part .ensures in (
-      c .before .before .before .before .before .before .before .before .before .before .before .before .before .before .before .before .pre .1 .0 .table,
+      c .before .before .before .before .before .before .before .before .before .before .before .before .before .before .before .pre .1 .0 .table,
       c .before .before .before .before .before .before .before .before .before .before .loop .inv .1,
       w .0,
       w .1,
     ))
-    -- part-of-requires-2: part-of; 1 part-depth; 2 if4; 3 others-fit; 4 last-part; 5 if3; 6 heads-fit; 7 if2; 8 is-index; 9 if1; 10 is-below; 11 loop; 17 args
+    -- part-of-requires-2: part-of; 1 part-depth; 2 if4; 3 others-fit; 4 last-part; 5 if3; 6 heads-fit; 7 if2; 8 is-index; 9 if1; 10 is-below; 11 loop; 16 args
     (λ c κs. let w = c .before .before .before .before .last-part .ensures in (
-      c .before .before .before .before .before .before .before .before .before .before .before .before .before .before .before .before .before .pre .1 .0 .table,
+      c .before .before .before .before .before .before .before .before .before .before .before .before .before .before .before .before .pre .1 .0 .table,
       c .before .before .before .before .before .before .before .before .before .before .before .loop .inv .2,
       w .0,
       w .1,
     ))
-    -- loop-less: part-of2; 1 part-of; 2 part-depth; 3 if4; 4 others-fit; 5 last-part; 6 if3; 7 heads-fit; 8 if2; 9 is-index; 10 if1; 11 is-below; 12 loop; 18 args
+    -- loop-less: part-of2; 1 part-of; 2 part-depth; 3 if4; 4 others-fit; 5 last-part; 6 if3; 7 heads-fit; 8 if2; 9 is-index; 10 if1; 11 is-below; 12 loop; 17 args
     (λ c. let some = open-positive _ _ _ _ (c .before .before .before .before .before .before .before .before .before .before .before .is-below .ensures)
     (not-true _ (c .before .before .before .before .before .before .before .before .before .before .if1 .taken)) in c .part-of2 .ensures .falls some)
-    -- loop-again: part-of2; 1 part-of; 2 part-depth; 3 if4; 4 others-fit; 5 last-part; 6 if3; 7 heads-fit; 8 if2; 9 is-index; 10 if1; 11 is-below; 12 loop; 18 args
+    -- loop-again: part-of2; 1 part-of; 2 part-depth; 3 if4; 4 others-fit; 5 last-part; 6 if3; 7 heads-fit; 8 if2; 9 is-index; 10 if1; 11 is-below; 12 loop; 17 args
     (λ c. let l = c .before .before .before .before .before .before .before .before .before .before .before .before .loop .inv in let w = c .before .before .before .before .before .last-part .ensures
     in let some = open-positive _ _ _ _ (c .before .before .before .before .before .before .before .before .before .before .before .is-below .ensures)
     (not-true _ (c .before .before .before .before .before .before .before .before .before .before .if1 .taken)) in let f = part-falls _ _ _ _ _ _ _ (c .part-of2 .ensures) some (l .3)
@@ -158,32 +158,32 @@ pub +fits-at+fits-part+others-fit-spec : {M : Type 1} → statement M
       f .1,
       omega (arith, f .0, l .4),
     ))
-    -- returns-4: if1; 1 is-below; 2 loop; 8 args
+    -- returns-4: if1; 1 is-below; 2 loop; 7 args
     (λ c. let l = c .before .before .loop .inv in fits-closed _ _ _ _ _ _ (l .1) (l .2) _ (c .before .is-below .ensures) (not-false _ (c .if1 .left)) ∙ sym (l .0)))
     (λ t. fits-part-lts.spec (fits-part-calls t) (fits-part-at t) fits-part.Post
-    -- part-depth-requires: 5 args
-    (λ c κs. let q = c .before .before .before .before .before .pre .1 in (q .3, depth-room _ _ (q .4) (q .5)))
-    -- part-of-requires: part-depth; 6 args
-    (λ c κs. let q = c .before .before .before .before .before .before .pre .1 in (q .0 .table, q .1, q .6, q .7))
-    -- part-of-requires-2: part-of; 1 part-depth; 7 args
-    (λ c κs. let q = c .before .before .before .before .before .before .before .pre .1 in (q .0 .table, q .3, q .6, q .7))
-    -- fits-at-requires: part-of2; 1 part-of; 2 part-depth; 8 args
-    (λ c κs. let p = c .before .before .before .before .before .before .before .before .pre in let q = p .1 in let f = part-falls _ _ _ _ _ _ _ (c .part-of2 .ensures) (q .4) (q .5)
+    -- part-depth-requires: 4 args
+    (λ c κs. let q = c .before .before .before .before .pre .1 in (q .3, depth-room _ _ (q .4) (q .5)))
+    -- part-of-requires: part-depth; 5 args
+    (λ c κs. let q = c .before .before .before .before .before .pre .1 in (q .0 .table, q .1, q .6, q .7))
+    -- part-of-requires-2: part-of; 1 part-depth; 6 args
+    (λ c κs. let q = c .before .before .before .before .before .before .pre .1 in (q .0 .table, q .3, q .6, q .7))
+    -- fits-at-requires: part-of2; 1 part-of; 2 part-depth; 7 args
+    (λ c κs. let p = c .before .before .before .before .before .before .before .pre in let q = p .1 in let f = part-falls _ _ _ _ _ _ _ (c .part-of2 .ensures) (q .4) (q .5)
     (c .before .before .part-depth .ensures .1) in (omega (arith, p .0, f .0), (q .0, c .before .part-of .ensures .stands .normal, q .2, c .part-of2 .ensures .stands .normal, f .1)))
-    -- returns: fits-at; 1 part-of2; 2 part-of; 3 part-depth; 9 args
+    -- returns: fits-at; 1 part-of2; 2 part-of; 3 part-depth; 8 args
     (λ c. fits-part-is _ _ _ _ _ _ _ _ _ _ _ (c .before .before .before .part-depth .ensures .0) (c .before .before .part-of .ensures) (c .before .part-of2 .ensures) (c .fits-at .ensures)))
     (λ t. others-fit-lts.spec (others-fit-calls t) (others-fit-at t) others-fit.Post
-    -- first-other-requires: 5 args
+    -- first-other-requires: 4 args
     (λ c κs. search needs)
-    -- second-other-requires: first-other; 6 args
+    -- second-other-requires: first-other; 5 args
     (λ c κs. search needs)
-    -- fits-part-requires: second-other; 1 first-other; 7 args
-    (λ c κs. let p = c .before .before .before .before .before .before .before .pre in let q = p .1 in let u = c .before .first-other .ensures in (omega (arith, p .0), (q .0, q .1, q .2, q .3, q .4, q .5, u .1, u .2)))
-    -- returns: if1; 1 fits-part; 2 second-other; 3 first-other; 9 args
+    -- fits-part-requires: second-other; 1 first-other; 6 args
+    (λ c κs. let p = c .before .before .before .before .before .before .pre in let q = p .1 in let u = c .before .first-other .ensures in (omega (arith, p .0), (q .0, q .1, q .2, q .3, q .4, q .5, u .1, u .2)))
+    -- returns: if1; 1 fits-part; 2 second-other; 3 first-other; 8 args
     (λ c. others-first _ _ _ _ _ _ _ _ (c .before .before .before .first-other .ensures .0) (c .before .before .second-other .ensures .0) _ (c .before .fits-part .ensures) (c .if1 .taken))
-    -- fits-part-requires-2: if1; 1 fits-part; 2 second-other; 3 first-other; 9 args
-    (λ c κs. let p = c .before .before .before .before .before .before .before .before .before .pre in let q = p .1 in let v = c .before .before .second-other .ensures in
+    -- fits-part-requires-2: if1; 1 fits-part; 2 second-other; 3 first-other; 8 args
+    (λ c κs. let p = c .before .before .before .before .before .before .before .before .pre in let q = p .1 in let v = c .before .before .second-other .ensures in
     (omega (arith, p .0), (q .0, q .1, q .2, q .3, q .4, q .5, v .1, v .2)))
-    -- returns-2: fits-part2; 1 if1; 2 fits-part; 3 second-other; 4 first-other; 10 args
+    -- returns-2: fits-part2; 1 if1; 2 fits-part; 3 second-other; 4 first-other; 9 args
     (λ c. others-second _ _ _ _ _ _ _ _ (c .before .before .before .before .first-other .ensures .0) (c .before .before .before .second-other .ensures .0) _ (c .before .before .fits-part .ensures)
     (c .before .if1 .left) _ (c .fits-part2 .ensures)))

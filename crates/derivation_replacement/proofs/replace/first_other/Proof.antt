@@ -1,4 +1,3 @@
-use borrow.Author.Needs.{needs}
 use native.Mathlib.Omega.{arith}
 use Rattle.derivation_replacement.specs.Replaced.{first-two, first-one}
 use Rattle.derivation_replacement.proofs.replace.first_other.Statement.{statement}

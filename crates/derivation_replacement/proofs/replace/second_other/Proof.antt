@@ -1,4 +1,3 @@
-use borrow.Author.Needs.{needs}
 use native.Mathlib.Omega.{arith}
 use Rattle.derivation_replacement.specs.Replaced.{second-two, second-three}
 use Rattle.derivation_replacement.proofs.replace.second_other.Statement.{statement}

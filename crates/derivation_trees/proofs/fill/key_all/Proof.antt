@@ -20,34 +20,29 @@ abbrev μ-loop : tie.MeasureT-loop
 pub key-all-spec : {M : Type 1} → statement M
 key-all-spec = tie.close (tie.spec
     Inv-loop μ-loop
-    -- clear-requires: clear-arg; 5 args
-    (λ c κs. search needs)
-    -- same-length: if1; 2 slots; 3 clear; 4 clear-arg; 9 args
+    -- returns: if1; 5 args
+    (λ c. (table-empty _ _ (c .if1 .taken), c .before .before .before .before .before .pre .2))
+    -- slice-write-keys: if1; 5 args
     (λ c. search needs)
-    -- returns: if1; 2 slots; 3 clear; 4 clear-arg; 9 args
-    (λ c. table-empty _ _ (c .if1 .taken))
-    -- slice-write-keys: if1; 2 slots; 3 clear; 4 clear-arg; 9 args
-    (λ c. search needs)
-    -- loop-holds: if1; 2 slots; 3 clear; 4 clear-arg; 9 args
-    (λ c. let t = c .before .before .before .before .before .before .before .before .before .args .keys .now in let long = length-set t 0 0 in
-    (omega arith, omega (arith, long), refl, refl, omega (arith, long), filling-start _ _ _ (getD-set-same t 0 0 0 (omega arith)) (c .before .before .before .clear .ensures)))
-    -- record-key-requires: record-key-arg2; 1 record-key-arg; 2 loop-test; 3 loop; 4 if1; 6 slots; 7 clear; 8 clear-arg; 13 args
+    -- loop-holds: if1; 5 args
+    (λ c. let t = c .before .before .before .before .before .args .keys .now in let long = length-set t 0 0 in (omega arith, omega (arith, long), refl, refl, omega (arith, long), filling-start _ _ _ (getD-set-same t 0 0 0 (omega arith)) (c .before .before .before .before .before .pre .2)))
+    -- record-key-requires: record-key-arg2; 1 record-key-arg; 2 loop-test; 3 loop; 4 if1; 9 args
     (λ c κs. let l = c .before .before .before .loop .inv in (l .0, omega arith, omega arith, omega arith, l .5))
-    -- mul-keys: 1 slots2; 2 record-key; 3 record-key-arg2; 4 record-key-arg; 5 loop-test; 6 loop; 7 if1; 9 slots; 10 clear; 11 clear-arg; 16 args
+    -- mul-keys: 1 slots; 2 record-key; 3 record-key-arg2; 4 record-key-arg; 5 loop-test; 6 loop; 7 if1; 12 args
     (λ c. search needs)
-    -- slice-write-keys-2: 1 slots2; 2 record-key; 3 record-key-arg2; 4 record-key-arg; 5 loop-test; 6 loop; 7 if1; 9 slots; 10 clear; 11 clear-arg; 16 args
+    -- slice-write-keys-2: 1 slots; 2 record-key; 3 record-key-arg2; 4 record-key-arg; 5 loop-test; 6 loop; 7 if1; 12 args
     (λ c. search needs)
-    -- add-i: 1 slots2; 2 record-key; 3 record-key-arg2; 4 record-key-arg; 5 loop-test; 6 loop; 7 if1; 9 slots; 10 clear; 11 clear-arg; 16 args
+    -- add-i: 1 slots; 2 record-key; 3 record-key-arg2; 4 record-key-arg; 5 loop-test; 6 loop; 7 if1; 12 args
     (λ c. search needs)
-    -- loop-less: 1 slots2; 2 record-key; 3 record-key-arg2; 4 record-key-arg; 5 loop-test; 6 loop; 7 if1; 9 slots; 10 clear; 11 clear-arg; 16 args
+    -- loop-less: 1 slots; 2 record-key; 3 record-key-arg2; 4 record-key-arg; 5 loop-test; 6 loop; 7 if1; 12 args
     (λ c. omega arith)
-    -- loop-again: 1 slots2; 2 record-key; 3 record-key-arg2; 4 record-key-arg; 5 loop-test; 6 loop; 7 if1; 9 slots; 10 clear; 11 clear-arg; 16 args
-    (λ c. let l = c .before .before .before .before .before .before .loop in let q = c .before .before .record-key .ensures in let long : length
-    (set (l .keys) (l .i) (c .before .before .record-key .result)) ≡ length (l .keys) = length-set (l .keys) (l .i) (c .before .before .record-key .result) in
-    (omega arith, omega arith, search needs, search needs, omega arith, filling-more _ (l .keys) _ _ (l .i) _ (omega arith) (l .inv .5) q))
-    -- same-length-2: loop-test; 1 loop; 2 if1; 4 slots; 5 clear; 6 clear-arg; 11 args
-    (λ c. c .before .loop .inv .2 ∙ length-set (c .before .before .before .before .before .before .before .before .before .before .before .args .keys .now) 0 0)
-    -- same-length-3: loop-test; 1 loop; 2 if1; 4 slots; 5 clear; 6 clear-arg; 11 args
-    (λ c. search needs)
-    -- returns-2: loop-test; 1 loop; 2 if1; 4 slots; 5 clear; 6 clear-arg; 11 args
-    (λ c. let l = c .before .loop .inv in table-end _ _ _ _ (c .loop-test .left) (l .1) (l .5)))
+    -- loop-again: 1 slots; 2 record-key; 3 record-key-arg2; 4 record-key-arg; 5 loop-test; 6 loop; 7 if1; 12 args
+    (λ c. let l = c .before .before .before .before .before .before .loop in let q = c .before .before .record-key .ensures in let long : length (set (l .keys) (l .i) (c .before .before .record-key .result)) ≡ length (l .keys) = length-set (l .keys) (l .i) (c .before .before .record-key .result) in (omega arith, omega arith, search needs, search needs, omega arith, filling-more _ (l .keys) _ _ (l .i) _ (omega arith) (l .inv .5) q))
+    -- clear-requires: clear-arg; 1 loop-test; 2 loop; 3 if1; 8 args
+    (λ c κs. search needs)
+    -- same-length: 1 slots2; 2 clear; 3 clear-arg; 4 loop-test; 5 loop; 6 if1; 11 args
+    (λ c. c .before .before .before .before .before .loop .inv .2 ∙ length-set (c .before .before .before .before .before .before .before .before .before .before .before .args .keys .now) 0 0)
+    -- same-length-2: 1 slots2; 2 clear; 3 clear-arg; 4 loop-test; 5 loop; 6 if1; 11 args
+    (λ c. c .before .before .clear .kept .0 ∙ c .before .before .before .before .before .loop .inv .3)
+    -- returns-2: 1 slots2; 2 clear; 3 clear-arg; 4 loop-test; 5 loop; 6 if1; 11 args
+    (λ c. let l = c .before .before .before .before .before .loop .inv in (table-end _ _ _ _ (c .before .before .before .before .loop-test .left) (l .1) (l .5), c .before .before .clear .ensures)))
