@@ -1,4 +1,4 @@
--- The comparison of two records, as one step, and the ways out of the code that makes it.
+-- The comparison of two records, as one step.
 use Prim.Native.Nat.{ℕ, _+_, _*_, _<_}
 use mathlib.Core.Path.{_≡_, sym}
 use mathlib.Core.Bool.{Bool, true, false}
@@ -46,10 +46,6 @@ module _ (rd : Reader) (i j : ℕ) where
   pub head-atoms : (k l a b : ℕ) → k ≡ rd i 0 → l ≡ rd j 0 → k ≡ l → a ≡ atom rd i → b ≡ atom rd j → eqb a b ≡ sameHeadAt rd i j
   unfolding sameHeadAt sameHead
   head-atoms k l a b p q h r s = simp (sameHead, ← p, ← q, eq-eqb k l h, ← r, ← s)
-
-  pub child-same : (w x y : ℕ) (r : Bool) → x ≡ child rd i w → y ≡ child rd j w → r ≡ same (tree rd x) (tree rd y) → r ≡ sameChild rd i j w
-  unfolding sameChild
-  child-same w x y r p q e = rw (← p, ← q) e
 
   pub same-one : i ≡ j → true ≡ same (tree rd i) (tree rd j)
   same-one h = rw h (sym (same-self (tree rd j)))

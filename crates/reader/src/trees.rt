@@ -2,10 +2,9 @@
 use crate::kinds;
 use crate::words;
 ghost use mathlib.Core.Path.{_≡_};
-ghost use Prim.Native.Nat.{_<_};
 ghost use Rattle.reader.specs.Words.{word};
-ghost use Rattle.reader.specs.Trees.{lower, child, atom, tree, same};
-ghost use Rattle.reader.specs.SameLaws.{sameHeadAt, sameChild};
+ghost use Rattle.reader.specs.Trees.{lower, child, atom};
+ghost use Rattle.reader.specs.SameLaws.{sameHeadAt};
 
 // The record that word w of record i refers to, 0 where it is no reference to a smaller one.
 pub fn lower_at(obligation: &[u8], second: &[u8], m: usize, i: usize, w: u8) -> usize
@@ -46,43 +45,4 @@ pub fn same_head(obligation: &[u8], second: &[u8], m: usize, i: usize, j: usize)
         return false;
     }
     atom_at(obligation, second, m, i) == atom_at(obligation, second, m, j)
-}
-
-// Do words w of records i and j refer to equal trees?
-fn same_child(obligation: &[u8], second: &[u8], m: usize, i: usize, j: usize, w: u8) -> bool
-    requires { ⌜ 0 < i ⌝ }
-    ensures { λ r. ⌜ r ≡ sameChild (word (now (obligation .entry)) (now (second .entry)) m) i j w ⌝ }
-{
-    same_at(
-        obligation,
-        second,
-        m,
-        child_at(obligation, second, m, i, w),
-        child_at(obligation, second, m, j, w),
-    )
-}
-
-// Do records i and j stand for equal trees?
-pub fn same_at(obligation: &[u8], second: &[u8], m: usize, i: usize, j: usize) -> bool
-    ensures { λ r. ⌜ r ≡ same (tree (word (now (obligation .entry)) (now (second .entry)) m) i) (tree (word (now (obligation .entry)) (now (second .entry)) m) j) ⌝ }
-{
-    if i == j {
-        return true;
-    }
-    if i == 0 {
-        return false;
-    }
-    if j == 0 {
-        return false;
-    }
-    if !same_head(obligation, second, m, i, j) {
-        return false;
-    }
-    if !same_child(obligation, second, m, i, j, 1) {
-        return false;
-    }
-    if !same_child(obligation, second, m, i, j, 2) {
-        return false;
-    }
-    same_child(obligation, second, m, i, j, 3)
 }
