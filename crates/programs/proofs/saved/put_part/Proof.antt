@@ -1,6 +1,10 @@
 use borrow.Author.Needs.{needs}
 use native.Mathlib.Omega.{arith}
+use Prim.Native.Nat.{ℕ}
+use mathlib.Core.Path.{ap, _∙_}
+use mathlib.Core.List.{List, _++_}
 use Rattle.io.proofs.Counting.{counts}
+use Rattle.programs.specs.Names.{partEnd}
 use Rattle.programs.proofs.saved.put_part.Statement.{statement}
 use Rattle.programs.proofs.saved.put_part.Tie as tie
 
@@ -15,4 +19,7 @@ put-part-spec = tie.close (tie.spec
     -- same-length
     (λ c. search needs)
     -- returns
-    (λ c. record { counts = counts _ _ (omega arith); text = cc }))
+    (λ c. record {
+      counts = counts _ _ (omega arith);
+      text = c .before .before .put-bytes2 .ensures .1 ∙ ap (λ (l : List ℕ). l ++ partEnd) (c .before .before .before .before .before .before .before .put-bytes .ensures .1);
+    }))

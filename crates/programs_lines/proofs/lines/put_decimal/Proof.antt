@@ -31,7 +31,8 @@ put-decimal-spec = tie.close (tie.spec
     -- loop-again
     (λ c.
     let put = c .before .before .put-byte .ensures in
-    (search needs, search writing-turn, kept-byte _ _ _ _ _ (put .0) (put .2) (c .before .before .before .before .before .loop .inv .2)))
+    let l = c .before .before .before .before .before .loop .inv in
+    (search needs, writing-turn _ _ _ _ _ _ _ _ (l .1) (omega arith) (put .0) (put .1), kept-byte _ _ _ _ _ (put .0) (put .2) (l .2)))
     -- cast-put-byte-2
     (λ c. search needs)
     -- add-put-byte-2

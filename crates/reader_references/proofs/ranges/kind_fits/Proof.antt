@@ -1,4 +1,6 @@
 use borrow.Author.Needs.{needs}
+use mathlib.Core.Path.{ap, _∙_}
+use Rattle.reader.specs.Kinds.{isKind}
 use Rattle.reader.specs.Records.{kindFits}
 use Rattle.reader_references.proofs.ranges.kind_fits.Statement.{statement}
 use Rattle.reader_references.proofs.ranges.kind_fits.Tie as tie
@@ -11,4 +13,4 @@ kind-fits-spec = tie.close (tie.spec
     -- is-kind-requires: word-at; 3 args
     (λ c κs. search needs)
     -- returns: is-kind; 1 word-at; 4 args
-    (λ c. cc))
+    (λ c. c .is-kind .ensures ∙ ap (isKind _) (c .before .word-at .ensures)))
