@@ -1,5 +1,5 @@
 -- The table of reaches, and the ways out of the code that fills and reads it.
-use Prim.Native.Nat.{ℕ, zero, suc, _+_, _*_, _-_, _%_, _<_, _≤_}
+use Prim.Native.Nat.{ℕ, zero, suc, _+_, _*_, _-_, _/_, _%_, _<_, _≤_}
 use mathlib.Core.Path.{_≡_, refl, sym, _∙_}
 use mathlib.Core.List.{List}
 use mathlib.Core.Bool.{Bool, true, false}
@@ -20,6 +20,7 @@ use Rattle.derivation_rules.specs.Erase.{bareTree}
 use Rattle.derivation_trees.specs.Erased.{bare-zero, bare-true, bare-all, bare-node}
 use Rattle.derivation_trees.specs.Keys.{negationsOf, bodyOf, bodyTree, negate, decoded, Normal, by-body, body-none, body-bottom, body-record}
 use Rattle.derivation_trees.specs.Parts.{body-in}
+use Rattle.derivation_closedness.specs.Orders.{order, partOrder, order-all}
 
 -- the indices of the records below n are below 64
 pub record Indexed (rd : Reader) (n : ℕ) : Type 0 where
@@ -28,9 +29,10 @@ pub record Indexed (rd : Reader) (n : ℕ) : Type 0 where
 pub indexed-as : (rd : Reader) (n k : ℕ) → k ≡ n → Indexed rd n → Indexed rd k
 indexed-as rd n k e h = rw e h
 
--- the table has the reaches of the records below n: an entry is reach + 128 * mark + 256 * order, where the order only says in which order parts are compared
+-- the table has the reaches and the orders of the records below n: an entry is reach + 128 * mark + 256 * order
 pub record Reached (rd : Reader) (reaches : List ℕ) (n : ℕ) : Type 0 where
   pub holds : (i : ℕ) → i < n → getD reaches i 0 % 128 ≡ reach false (bareTree rd i)
+  pub ordered : (i : ℕ) → i < n → getD reaches i 0 / 256 ≡ order (bareTree rd i)
 
 -- no entry has a mark
 pub record Unmarked (reaches : List ℕ) : Type 0 where
@@ -40,6 +42,7 @@ pub record Unmarked (reaches : List ℕ) : Type 0 where
 pub record EntryOf (rd : Reader) (i v : ℕ) : Type 0 where
   pub reached : v % 128 ≡ reach false (bareTree rd i)
   pub unmarked : v % 256 < 128
+  pub ordered : v / 256 ≡ order (bareTree rd i)
 
 -- the reach of part w of record i
 unfoldable pub partReach : Reader → ℕ → ℕ → ℕ
@@ -87,6 +90,17 @@ module _ (rd : Reader) (i k : ℕ) (p : i ≡ 0 → ⊥) (ek : k ≡ rd i 0) whe
   unfolding reach nodeReach partReach
   reach-node r no-true no-all er = rw (bare-node rd i (omega arith) (λ h. no-true (ek ∙ h)) (λ h. no-all (ek ∙ h))) er
 
+-- The ways out of `part_order` and, for kind 22, of `order_of`: the table has the smaller records.
+module _ (rd : Reader) (reaches : List ℕ) (i : ℕ) (t : Reached rd reaches i) (x r : ℕ) (er : r ≡ getD reaches x 0 / 256) where
+  pub part-ordered : (w : ℕ) → 0 < i → x ≡ partAt rd false i w → r ≡ partOrder rd i w
+  unfolding partOrder
+  part-ordered w p ex = let low : x < i = omega (arith, part-below rd false i w p) in rw (← ex) (er ∙ t .ordered x low)
+
+  pub all-ordered : (k : ℕ) → (i ≡ 0 → ⊥) → k ≡ rd i 0 → k ≡ 22 → x ≡ child rd i 2 → r ≡ order (bareTree rd i)
+  all-ordered k p ek h ex =
+      let low : x < i = omega (arith, child-below rd i 2 (omega arith)) in
+      order-all rd i k p ek x r h ex (er ∙ t .ordered x low)
+
 -- Where indices are below 64, no reach is more than 64, which fits an entry.
 larger-most : (a b n : ℕ) → a ≤ n → b ≤ n → larger a b ≤ n
 unfolding larger ifLt
@@ -130,11 +144,12 @@ module _ (rd : Reader) (n : ℕ) (indexed : Indexed rd n) where
   pub reach-low : (i r : ℕ) → i < n → r ≡ reach false (bareTree rd i) → r ≤ 64
   reach-low i r h e = omega (arith, reach-most (suc i) i (omega arith) h)
 
-  pub entry-made : (i r order : ℕ) → i < n → r ≡ reach false (bareTree rd i) → EntryOf rd i (r + 256 * order)
-  entry-made i r order h e =
+  pub entry-made : (i r o : ℕ) → i < n → r ≡ reach false (bareTree rd i) → o ≡ order (bareTree rd i) → EntryOf rd i (r + 256 * o)
+  entry-made i r o h e eo =
       let low : r ≤ 64 = reach-low i r h e in
-      let rest : (r + 256 * order) % 128 ≡ r = omega arith in
-      record { reached = rest ∙ e; unmarked = omega arith }
+      let rest : (r + 256 * o) % 128 ≡ r = omega arith in
+      let high : (r + 256 * o) / 256 ≡ o = omega arith in
+      record { reached = rest ∙ e; unmarked = omega arith; ordered = high ∙ eo }
 
 -- The loop: the entries of the records below n are made.
 pub record Filled (rd : Reader) (reaches : List ℕ) (n : ℕ) : Type 0 where
@@ -151,7 +166,10 @@ filled-more rd reaches i v p f e = record { holds = λ j h. go j h (ltb j i) ref
     go j h false q = let one : j ≡ i = omega (arith, ltb-false j i q) in rw (one, getD-set-same reaches i v 0 p) e
 
 pub filled-reached : (rd : Reader) (reaches : List ℕ) (i n : ℕ) → n ≤ i → Filled rd reaches i → Reached rd reaches n
-filled-reached rd reaches i n h f = record { holds = λ j p. f .holds j (omega arith) .reached }
+filled-reached rd reaches i n h f = record {
+  holds = λ j p. f .holds j (omega arith) .reached;
+  ordered = λ j p. f .holds j (omega arith) .ordered;
+}
 
 pub filled-unmarked : (rd : Reader) (reaches : List ℕ) (i : ℕ) → length reaches ≤ i → Filled rd reaches i → Unmarked reaches
 filled-unmarked rd reaches i h f = record { none = λ j. go j (ltb j i) refl }

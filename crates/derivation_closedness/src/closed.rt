@@ -1,6 +1,5 @@
 // Closedness: how far the indices of a record's tree reach. A recursion over the parts of a record; a table in front of it remembers what was found, so that
-// a test is one comparison. Entry i of the table is reach + 128 * mark + 256 * order of record i: of the marks see marks.rt, and of the order no contract
-// speaks, since it only says which part of a record is compared last.
+// a test is one comparison. Entry i of the table is reach + 128 * mark + 256 * order of record i: of the marks see marks.rt, of the order orders.rt.
 use crate::orders::order_of;
 use reader::trees;
 use reader::words;
@@ -114,7 +113,7 @@ fn entry_of(obligation: &[u8], second: &[u8], m: usize, reaches: &[u16], i: usiz
     (r + 256 * order) as u16
 }
 
-// Fills the table with the entries of all its records, whose indices are below 64; no mark is set.
+// Fills the table with the reaches and orders of all its records, whose indices are below 64; no mark is set.
 pub fn reach_all(obligation: &[u8], second: &[u8], m: usize, reaches: &mut [u16])
     requires { ⌜ Indexed (word (now obligation) (now second) m) (length (now reaches)) ⌝ }
     ensures { λ _. ⌜ Reached (word (now (obligation .entry)) (now (second .entry)) m) (now (reaches .exit)) (length (now (reaches .exit))) × Unmarked (now (reaches .exit)) ⌝ }

@@ -9,7 +9,8 @@ ghost use Rattle.reader.specs.Words.{word};
 ghost use Rattle.reader.specs.Trees.{same};
 ghost use Rattle.reader.specs.Variables.{replaced};
 ghost use Rattle.derivation_trees.specs.Keys.{rank, decoded, Normal};
-ghost use Rattle.derivation_trees.specs.Table.{Table};
+ghost use Rattle.derivation_closedness.specs.Orders.{order};
+ghost use Rattle.derivation_replacement.specs.Last.{largest, lastPart};
 ghost use Rattle.derivation_replacement.specs.Replaced.{Tables, fits, fitsPart, firstOther, secondOther, othersFit, indexKey, sameHeads, headsFit, partDepth};
 
 // Is the tree of key j the bound variable with index d?
@@ -77,16 +78,39 @@ fn part_depth(
     }
 }
 
-// The order of the record of key j, 0 for none.
-fn order_of(reaches: &[u16], j: usize) -> usize {
+// The order of the tree of key j.
+fn order_of(
+    obligation: &[u8],
+    second: &[u8],
+    m: usize,
+    keys: &[usize],
+    reaches: &[u16],
+    j: usize,
+) -> usize
+    requires { ⌜ Tables (word (now obligation) (now second) m) (now keys) (now reaches) × Normal (word (now obligation) (now second) m) (length (now keys)) j ⌝ }
+    ensures { λ r. ⌜ r ≡ order (decoded (word (now (obligation .entry)) (now (second .entry)) m) j) ⌝ }
+{
+    if j == 0 {
+        return 0;
+    }
     let body = j % 262144;
     if body < 2 {
-        return 0;
+        return 1;
     }
     closed::known_order(reaches, body - 1)
 }
 
-// The part of the tree of key j that is compared last: the one with the largest order, though any would do.
+// Which of three orders is the largest, the first such one.
+fn largest_of(a: usize, b: usize, c: usize) -> u8
+    ensures { λ r. ⌜ (r ≡ largest a b c) × (0 < r) × (r < 4) ⌝ }
+{
+    if a < b {
+        return if b < c { 3 } else { 2 };
+    }
+    if a < c { 3 } else { 1 }
+}
+
+// The part of the tree of key j that is compared last: the one with the largest order.
 fn last_part(
     obligation: &[u8],
     second: &[u8],
@@ -95,16 +119,16 @@ fn last_part(
     reaches: &[u16],
     j: usize,
 ) -> u8
-    requires { ⌜ Table (word (now obligation) (now second) m) (now keys) × Normal (word (now obligation) (now second) m) (length (now keys)) j ⌝ }
-    ensures { λ r. ⌜ (0 < r) × (r < 4) ⌝ }
+    requires { ⌜ Tables (word (now obligation) (now second) m) (now keys) (now reaches) × Normal (word (now obligation) (now second) m) (length (now keys)) j ⌝ }
+    ensures { λ r. ⌜ (r ≡ lastPart (word (now (obligation .entry)) (now (second .entry)) m) j) × (0 < r) × (r < 4) ⌝ }
 {
-    let a = order_of(reaches, parts::part_of(obligation, second, m, keys, j, 1));
-    let b = order_of(reaches, parts::part_of(obligation, second, m, keys, j, 2));
-    let c = order_of(reaches, parts::part_of(obligation, second, m, keys, j, 3));
-    if a < b {
-        return if b < c { 3 } else { 2 };
-    }
-    if a < c { 3 } else { 1 }
+    let x = parts::part_of(obligation, second, m, keys, j, 1);
+    let a = order_of(obligation, second, m, keys, reaches, x);
+    let y = parts::part_of(obligation, second, m, keys, j, 2);
+    let b = order_of(obligation, second, m, keys, reaches, y);
+    let z = parts::part_of(obligation, second, m, keys, j, 3);
+    let c = order_of(obligation, second, m, keys, reaches, z);
+    largest_of(a, b, c)
 }
 
 // The same for parts w of the trees of keys x and j.

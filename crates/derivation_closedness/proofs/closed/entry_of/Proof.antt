@@ -1,5 +1,6 @@
 use borrow.Author.Needs.{needs}
 use native.Mathlib.Omega.{arith}
+use Rattle.derivation_closedness.specs.Orders.{order-limit}
 use Rattle.derivation_closedness.specs.Reaches.{reach-low, entry-made}
 use Rattle.derivation_closedness.proofs.closed.entry_of.Statement.{statement}
 use Rattle.derivation_closedness.proofs.closed.entry_of.Tie as tie
@@ -11,10 +12,12 @@ entry-of-spec = tie.close (tie.spec
     -- order-of-requires: reach-of; 4 args
     (λ c κs. search needs)
     -- mul-result: order-of; 1 reach-of; 5 args
-    (λ c. search needs)
+    (λ c. omega (arith, order-limit _ _ (c .order-of .ensures)))
     -- add-result: order-of; 1 reach-of; 5 args
-    (λ c. let a = c .before .before .before .before .before in omega (arith, reach-low _ _ (a .pre .1) (a .args .i) (c .before .reach-of .result) (a .pre .0) (c .before .reach-of .ensures)))
+    (λ c. let a = c .before .before .before .before .before in
+        omega (arith, reach-low _ _ (a .pre .1) (a .args .i) (c .before .reach-of .result) (a .pre .0) (c .before .reach-of .ensures), order-limit _ _ (c .order-of .ensures)))
     -- cast-result: order-of; 1 reach-of; 5 args
-    (λ c. let a = c .before .before .before .before .before in omega (arith, reach-low _ _ (a .pre .1) (a .args .i) (c .before .reach-of .result) (a .pre .0) (c .before .reach-of .ensures)))
+    (λ c. let a = c .before .before .before .before .before in
+        omega (arith, reach-low _ _ (a .pre .1) (a .args .i) (c .before .reach-of .result) (a .pre .0) (c .before .reach-of .ensures), order-limit _ _ (c .order-of .ensures)))
     -- returns: order-of; 1 reach-of; 5 args
-    (λ c. let p = c .before .before .before .before .before .pre in entry-made _ _ (p .1) _ _ _ (p .0) (c .before .reach-of .ensures)))
+    (λ c. let p = c .before .before .before .before .before .pre in entry-made _ _ (p .1) _ _ _ (p .0) (c .before .reach-of .ensures) (c .order-of .ensures)))

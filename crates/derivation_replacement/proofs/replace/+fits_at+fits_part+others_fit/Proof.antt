@@ -111,7 +111,7 @@ pub +fits-at+fits-part+others-fit-spec : {M : Type 1} → statement M
     (not-true _ (c .before .before .before .before .if1 .taken)) _ (c .before .before .before .is-index .ensures) (c .before .before .if2 .left) _ (c .before .heads-fit .ensures) (c .if3 .taken) ∙
     sym (l .0))
     -- last-part-requires: if3; 1 heads-fit; 2 if2; 3 is-index; 4 if1; 5 is-below; 6 loop; 11 args
-    (λ c κs. (c .before .before .before .before .before .before .before .before .before .before .before .pre .1 .0 .table, c .before .before .before .before .before .before .loop .inv .2))
+    (λ c κs. (c .before .before .before .before .before .before .before .before .before .before .before .pre .1 .0, c .before .before .before .before .before .before .loop .inv .2))
     -- others-fit-requires: last-part; 1 if3; 2 heads-fit; 3 if2; 4 is-index; 5 if1; 6 is-below; 7 loop; 12 args
     (λ c κs. let p = c .before .before .before .before .before .before .before .before .before .before .before .before .pre in let q = p .1 in let l =
     c .before .before .before .before .before .before .before .loop .inv in let some = open-positive _ _ _ _ (c .before .before .before .before .before .before .is-below .ensures)
@@ -120,7 +120,7 @@ pub +fits-at+fits-part+others-fit-spec : {M : Type 1} → statement M
     (λ c. let l = c .before .before .before .before .before .before .before .before .before .loop .inv in let w = c .before .before .last-part .ensures in fits-others _ _ _ _ _ _ (l .1) (l .2) _
     (c .before .before .before .before .before .before .before .before .is-below .ensures) (not-true _ (c .before .before .before .before .before .before .before .if1 .taken)) _
     (c .before .before .before .before .before .before .is-index .ensures) (c .before .before .before .before .before .if2 .left) _ (c .before .before .before .before .heads-fit .ensures)
-    (c .before .before .before .if3 .left) _ (w .0) (w .1) _ (c .before .others-fit .ensures) (c .if4 .taken) ∙ sym (l .0))
+    (c .before .before .before .if3 .left) _ (w .1) (w .2) _ (c .before .others-fit .ensures) (c .if4 .taken) ∙ sym (l .0))
     -- part-depth-requires: if4; 1 others-fit; 2 last-part; 3 if3; 4 heads-fit; 5 if2; 6 is-index; 7 if1; 8 is-below; 9 loop; 14 args
     (λ c κs. let l = c .before .before .before .before .before .before .before .before .before .loop .inv in let some = open-positive _ _ _ _
     (c .before .before .before .before .before .before .before .before .is-below .ensures) (not-true _ (c .before .before .before .before .before .before .before .if1 .taken)) in
@@ -129,15 +129,15 @@ pub +fits-at+fits-part+others-fit-spec : {M : Type 1} → statement M
     (λ c κs. let w = c .before .before .before .last-part .ensures in (
       c .before .before .before .before .before .before .before .before .before .before .before .before .before .before .before .pre .1 .0 .table,
       c .before .before .before .before .before .before .before .before .before .before .loop .inv .1,
-      w .0,
       w .1,
+      w .2,
     ))
     -- part-of-requires-2: part-of; 1 part-depth; 2 if4; 3 others-fit; 4 last-part; 5 if3; 6 heads-fit; 7 if2; 8 is-index; 9 if1; 10 is-below; 11 loop; 16 args
     (λ c κs. let w = c .before .before .before .before .last-part .ensures in (
       c .before .before .before .before .before .before .before .before .before .before .before .before .before .before .before .before .pre .1 .0 .table,
       c .before .before .before .before .before .before .before .before .before .before .before .loop .inv .2,
-      w .0,
       w .1,
+      w .2,
     ))
     -- loop-less: part-of2; 1 part-of; 2 part-depth; 3 if4; 4 others-fit; 5 last-part; 6 if3; 7 heads-fit; 8 if2; 9 is-index; 10 if1; 11 is-below; 12 loop; 17 args
     (λ c. let some = open-positive _ _ _ _ (c .before .before .before .before .before .before .before .before .before .before .before .is-below .ensures)
@@ -150,7 +150,7 @@ pub +fits-at+fits-part+others-fit-spec : {M : Type 1} → statement M
       l .0 ∙ fits-next _ _ _ _ _ _ (l .1) (l .2) _ (c .before .before .before .before .before .before .before .before .before .before .before .is-below .ensures)
           (not-true _ (c .before .before .before .before .before .before .before .before .before .before .if1 .taken)) _
           (c .before .before .before .before .before .before .before .before .before .is-index .ensures) (c .before .before .before .before .before .before .before .before .if2 .left) _
-          (c .before .before .before .before .before .before .before .heads-fit .ensures) (c .before .before .before .before .before .before .if3 .left) _ (w .0) (w .1) _
+          (c .before .before .before .before .before .before .before .heads-fit .ensures) (c .before .before .before .before .before .before .if3 .left) _ (w .1) (w .2) _
           (c .before .before .before .before .others-fit .ensures) (c .before .before .before .if4 .left) _ _ _ (c .before .before .part-depth .ensures .0) (c .before .part-of .ensures)
           (c .part-of2 .ensures),
       c .before .part-of .ensures .stands .normal,
