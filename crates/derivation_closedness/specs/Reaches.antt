@@ -102,7 +102,7 @@ module _ (rd : Reader) (reaches : List ℕ) (i : ℕ) (t : Reached rd reaches i)
       order-all rd i k p ek x r h ex (er ∙ t .ordered x low)
 
 -- Where indices are below 64, no reach is more than 64, which fits an entry.
-larger-most : (a b n : ℕ) → a ≤ n → b ≤ n → larger a b ≤ n
+pub larger-most : (a b n : ℕ) → a ≤ n → b ≤ n → larger a b ≤ n
 unfolding larger ifLt
 larger-most a b n p q = go (ltb a b)
   where

@@ -1,4 +1,4 @@
-// The order of a record, a number up to 15 that the table has beside its reach: the largest of its parts' orders, and one more where two parts have that.
+// The order of a record, a number up to 255 that the table has beside its reach: the largest of its parts' orders, and one more where two parts have that.
 // A recursion into all parts but one of the largest order, which a loop takes, is then no deeper than the order.
 use crate::closed::known_order;
 use reader::trees;
@@ -51,8 +51,8 @@ fn order_above(a: usize, b: usize, c: usize) -> usize
     ensures { λ r. ⌜ r ≡ orderAbove a b c ⌝ }
 {
     let most = larger(a, larger(b, c));
-    if 15 <= most {
-        return 15;
+    if 255 <= most {
+        return 255;
     }
     if is_shared(most, a, b, c) {
         return most + 1;

@@ -1,2 +1,3 @@
+pub mod Depth
 pub mod Last
 pub mod Replaced

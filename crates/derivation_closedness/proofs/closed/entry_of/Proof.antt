@@ -15,9 +15,9 @@ entry-of-spec = tie.close (tie.spec
     (λ c. omega (arith, order-limit _ _ (c .order-of .ensures)))
     -- add-result: order-of; 1 reach-of; 5 args
     (λ c. let a = c .before .before .before .before .before in
-        omega (arith, reach-low _ _ (a .pre .1) (a .args .i) (c .before .reach-of .result) (a .pre .0) (c .before .reach-of .ensures), order-limit _ _ (c .order-of .ensures)))
+    omega (arith, reach-low _ _ (a .pre .1) (a .args .i) (c .before .reach-of .result) (a .pre .0) (c .before .reach-of .ensures), order-limit _ _ (c .order-of .ensures)))
     -- cast-result: order-of; 1 reach-of; 5 args
     (λ c. let a = c .before .before .before .before .before in
-        omega (arith, reach-low _ _ (a .pre .1) (a .args .i) (c .before .reach-of .result) (a .pre .0) (c .before .reach-of .ensures), order-limit _ _ (c .order-of .ensures)))
+    omega (arith, reach-low _ _ (a .pre .1) (a .args .i) (c .before .reach-of .result) (a .pre .0) (c .before .reach-of .ensures), order-limit _ _ (c .order-of .ensures)))
     -- returns: order-of; 1 reach-of; 5 args
     (λ c. let p = c .before .before .before .before .before .pre in entry-made _ _ (p .1) _ _ _ (p .0) (c .before .reach-of .ensures) (c .order-of .ensures)))
