@@ -8,7 +8,7 @@ use lib.ListN.{length, getD, replicate, length-replicate, getD-replicate, List·
 use native.Mathlib.Omega.{arith}
 use borrow.Author.Tests.{not-true, not-false, ne-eqb, ltb-true, ltb-false}
 use Rattle.reader.specs.declared.Answer.{Answer}
-use Rattle.reader.specs.Words.{Reader, wordOf, word}
+use Rattle.reader.specs.Words.{Reader, wordOf, word, recordCount}
 use Rattle.reader.specs.Tests.{demand, ifEq}
 use Rattle.reader.specs.Kinds.{isRule}
 use Rattle.reader.specs.Answers.{answer, accepted, placed, orAnswer, firstFault}
@@ -19,7 +19,7 @@ use Rattle.reader.specs.AnswerLaws.{answer-stop, answer-go}
 use Rattle.reader_weights.specs.Weights.{Filled, filled-one, fileOf}
 use Rattle.reader_equality.specs.Tables.{Zeros}
 use Rattle.reader_naming.specs.Totals.{Cleared}
-use Rattle.reader_headers.specs.Headers.{count-below, counts-in}
+use Rattle.reader_headers.specs.Headers.{records-most, count-is, count-below, counts-in}
 use Rattle.reader_headers.specs.Roots.{rootsFit}
 
 -- a table whose entry 0 is 0
@@ -133,12 +133,12 @@ module _ (mode : ℕ) (rd : Reader) (m n root w last : ℕ) (second : 0 < mode) 
       let same : last ≡ m + n = omega arith in
       answer-go (firstFault (recordFault mode rd) 2 n (m + 1)) _ r q second-records h (rw same at e)
 
--- tables that have room for every record of an obligation and a second file of kind `mode`
-pub record Roomy (mode : ℕ) (slots table named passed : List ℕ) : Type 0 where
-  pub symbols : 4096 + 2 * (1023 + mostRecords mode) ≤ length slots
-  pub weights : 1023 + mostRecords mode ≤ length table
-  pub names : 1023 + mostRecords mode ≤ length named
-  pub links : 1023 + mostRecords mode ≤ length passed
+-- tables that have room for every record of an obligation and of second file s, if that is no longer than one of kind `mode` may be
+pub record Roomy (mode : ℕ) (s slots table named passed : List ℕ) : Type 0 where
+  pub symbols : recordCount s ≤ mostRecords mode → 4096 + 2 * (1023 + recordCount s) ≤ length slots
+  pub weights : recordCount s ≤ mostRecords mode → 1023 + recordCount s ≤ length table
+  pub names : recordCount s ≤ mostRecords mode → 1023 + recordCount s ≤ length named
+  pub links : recordCount s ≤ mostRecords mode → 1023 + recordCount s ≤ length passed
 
 -- so that there are slots for each of them
 most-few : (mode : ℕ) → mostRecords mode ≤ 200001
@@ -150,8 +150,9 @@ most-few mode = go (eqb mode 1) (eqb mode 2)
     go false true = omega arith
     go false false = omega arith
 
-pub room-fits : (mode : ℕ) (slots table named passed : List ℕ) (n : ℕ) → Roomy mode slots table named passed → n < 1023 + mostRecords mode → Room slots n
-room-fits mode slots table named passed n roomy h = record { room = omega (arith, roomy .symbols); small = omega (arith, most-few mode) }
+pub room-fits : (mode : ℕ) (s slots table named passed : List ℕ) (n : ℕ) → Roomy mode s slots table named passed → recordCount s ≤ mostRecords mode →
+    n < 1023 + recordCount s → Room slots n
+room-fits mode s slots table named passed n roomy most h = record { room = omega (arith, roomy .symbols most); small = omega (arith, most-few mode) }
 
 -- The ways out of `second_reading`.
 module _ (mode : ℕ) (ob s : List ℕ) (t : Bool) (et : t ≡ lengthFits mode s) where
@@ -165,8 +166,9 @@ module _ (mode : ℕ) (ob s : List ℕ) (t : Bool) (et : t ≡ lengthFits mode s
     reading-header h q e = place-go (lengthFits mode s) t 1 2 q _ et long (e ∙ place-stop (countsFit ob s) u 2 2 eu refl _ h)
 
     module _ (fits : not u ≡ false) (m : ℕ) where
-      pub reading-small : m < 1024 → m + countOf s < 1023 + mostRecords mode
-      reading-small h = omega (arith, count-below mode s (sym et ∙ not-false t long) (counts-in ob s (sym eu ∙ not-false u fits)))
+      pub reading-small : m < 1024 → (recordCount s ≤ mostRecords mode) × (m + countOf s < 1023 + recordCount s)
+      reading-small h =
+          (records-most mode s (sym et ∙ not-false t long), omega (arith, count-is s (counts-in ob s (sym eu ∙ not-false u fits))))
 
       pub reading-rest : m ≡ countOf ob → (q : Answer) → q ≡ secondBody mode (word ob s m) m (countOf s) (rootOf s) → q ≡ secondReading mode ob s
       unfolding secondReading secondBody rootAndNaming
@@ -205,16 +207,22 @@ zeros-blank n = record { first = zeros-cleared n .zeros 0 }
 pub zeros-zeros : (n : ℕ) → Zeros (zeros n)
 zeros-zeros n = record { zeros = zeros-cleared n .zeros }
 
-zeros-roomy : (mode n k : ℕ) → 1023 + mostRecords mode ≤ n → 4096 + 2 * (1023 + mostRecords mode) ≤ k → Roomy mode (zeros k) (zeros n) (zeros n) (zeros n)
-zeros-roomy mode n k h g =
+zeros-roomy : (mode n k most : ℕ) (s : List ℕ) → (recordCount s ≤ mostRecords mode → recordCount s ≤ most) → 1023 + most ≤ n → 4096 + 2 * (1023 + most) ≤ k →
+    Roomy mode s (zeros k) (zeros n) (zeros n) (zeros n)
+zeros-roomy mode n k most s few h g =
     let e : length (zeros n) ≡ n = length-replicate {A = ℕ} n 0 in
     let f : length (zeros k) ≡ k = length-replicate {A = ℕ} k 0 in
-    record { symbols = rw f g; weights = rw e h; names = rw e h; links = rw e h }
+    let room : recordCount s ≤ mostRecords mode → 1023 + recordCount s ≤ length (zeros n) = λ p. rw e (omega (arith, few p)) in
+    record { symbols = λ p. rw f (omega (arith, few p)); weights = room; names = room; links = room }
 
-pub room-for-proof : Roomy 1 (zeros 12288) (zeros 4096) (zeros 4096) (zeros 4096)
+pub room-for-proof : (s : List ℕ) → Roomy 1 s (zeros 12288) (zeros 4096) (zeros 4096) (zeros 4096)
 unfolding mostRecords ifEq
-room-for-proof = zeros-roomy 1 4096 12288 (omega arith) (omega arith)
+room-for-proof s = zeros-roomy 1 4096 12288 3073 s (λ p. p) (omega arith) (omega arith)
 
-pub room-for-derivation : Roomy 2 (zeros 406144) (zeros 201024) (zeros 201024) (zeros 201024)
+-- a derivation of few records, and any
+pub room-for-few : (s : List ℕ) → recordCount s ≤ 3073 → Roomy 2 s (zeros 12288) (zeros 4096) (zeros 4096) (zeros 4096)
+room-for-few s few = zeros-roomy 2 4096 12288 3073 s (λ p. few) (omega arith) (omega arith)
+
+pub room-for-derivation : (s : List ℕ) → Roomy 2 s (zeros 406144) (zeros 201024) (zeros 201024) (zeros 201024)
 unfolding mostRecords ifEq
-room-for-derivation = zeros-roomy 2 201024 406144 (omega arith) (omega arith)
+room-for-derivation s = zeros-roomy 2 201024 406144 200001 s (λ p. p) (omega arith) (omega arith)

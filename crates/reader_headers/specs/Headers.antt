@@ -58,12 +58,16 @@ unfolding both
 both-in true b h = (refl, h)
 both-in false b h = absurd (false≢true h)
 
+pub records-most : (mode : ℕ) (s : List ℕ) → lengthFits mode s ≡ true → recordCount s ≤ mostRecords mode
+unfolding lengthFits
+records-most mode s h = leb-true (recordCount s) (mostRecords mode) (both-in _ _ (both-in _ _ h .1) .1)
+
+pub count-is : (s : List ℕ) → headerFits s ≡ true → countOf s + 1 ≡ recordCount s
+unfolding headerFits
+count-is s g = eqb-true (wordOf s 0 1 + 1) (recordCount s) (both-in _ _ g .1)
+
 pub count-below : (mode : ℕ) (s : List ℕ) → lengthFits mode s ≡ true → headerFits s ≡ true → countOf s < mostRecords mode
-unfolding lengthFits headerFits
-count-below mode s h g =
-    let l = both-in _ _ (both-in _ _ h .1) .1 in
-    let c = both-in _ _ g .1 in
-    omega (arith, leb-true (recordCount s) (mostRecords mode) l, eqb-true (wordOf s 0 1 + 1) (recordCount s) c)
+count-below mode s h g = omega (arith, records-most mode s h, count-is s g)
 
 pub counts-in : (obligation s : List ℕ) → countsFit obligation s ≡ true → headerFits s ≡ true
 unfolding countsFit

@@ -65,7 +65,7 @@ fn second_reading(
     named: &mut [u8],
     passed: &mut [u8],
 ) -> Answer
-    requires { ⌜ (0 < mode) × (m ≡ countOf (now obligation)) × (m < 1024) × Roomy mode (now slots) (now table) (now named) (now passed) × Zeros (now slots) × Blank (now table) × Cleared (now named) × Cleared (now passed) × Numbered (word (now obligation) (now second) m) (now numbers) (length (now numbers)) × Zeros (now seen) ⌝ }
+    requires { ⌜ (0 < mode) × (m ≡ countOf (now obligation)) × (m < 1024) × Roomy mode (now second) (now slots) (now table) (now named) (now passed) × Zeros (now slots) × Blank (now table) × Cleared (now named) × Cleared (now passed) × Numbered (word (now obligation) (now second) m) (now numbers) (length (now numbers)) × Zeros (now seen) ⌝ }
     ensures { λ r. ⌜ r ≡ secondReading mode (now (obligation .entry)) (now (second .entry)) ⌝ }
 {
     if !headers::length_fits(mode, second) {
@@ -154,15 +154,36 @@ pub fn read_proof(obligation: &[u8], proof: &[u8]) -> Answer
     numbered_reading(obligation, proof, m, &mut numbers[..size])
 }
 
-// Places 1 to 12 of an obligation and a derivation, whose records are not typed: no number is wanted.
-pub fn read_derivation(obligation: &[u8], derivation: &[u8]) -> Answer
-    ensures { λ r. ⌜ r ≡ reading 2 (now (obligation .entry)) (now (derivation .entry)) ⌝ }
+// Places 1 to 12 of a derivation of few records, whose records are not typed: no number is wanted. Small tables are cleared sooner.
+fn few_records(obligation: &[u8], derivation: &[u8], m: usize) -> Answer
+    requires { ⌜ (m ≡ countOf (now obligation)) × (m < 1024) × (recordCount (now derivation) ≤ 3073) ⌝ }
+    ensures { λ r. ⌜ r ≡ secondReading 2 (now (obligation .entry)) (now (derivation .entry)) ⌝ }
 {
-    let r = obligation_reading(obligation);
-    if r.refusal != 0 {
-        return r;
-    }
-    let m = words::word_of(obligation, 0, 1);
+    let numbers = [0usize; 1];
+    let mut seen = [0usize; 1];
+    let mut slots = [0u32; 12288];
+    let mut table = [0u16; 4096];
+    let mut named = [0u8; 4096];
+    let mut passed = [0u8; 4096];
+    second_reading(
+        obligation,
+        derivation,
+        m,
+        2,
+        &numbers,
+        &mut seen,
+        &mut slots,
+        &mut table,
+        &mut named,
+        &mut passed,
+    )
+}
+
+// The same of any derivation.
+fn many_records(obligation: &[u8], derivation: &[u8], m: usize) -> Answer
+    requires { ⌜ (m ≡ countOf (now obligation)) × (m < 1024) ⌝ }
+    ensures { λ r. ⌜ r ≡ secondReading 2 (now (obligation .entry)) (now (derivation .entry)) ⌝ }
+{
     let numbers = [0usize; 1];
     let mut seen = [0usize; 1];
     let mut slots = [0u32; 406144];
@@ -181,4 +202,19 @@ pub fn read_derivation(obligation: &[u8], derivation: &[u8]) -> Answer
         &mut named,
         &mut passed,
     )
+}
+
+// Places 1 to 12 of an obligation and a derivation.
+pub fn read_derivation(obligation: &[u8], derivation: &[u8]) -> Answer
+    ensures { λ r. ⌜ r ≡ reading 2 (now (obligation .entry)) (now (derivation .entry)) ⌝ }
+{
+    let r = obligation_reading(obligation);
+    if r.refusal != 0 {
+        return r;
+    }
+    let m = words::word_of(obligation, 0, 1);
+    if words::record_count(derivation) <= 3073 {
+        return few_records(obligation, derivation, m);
+    }
+    many_records(obligation, derivation, m)
 }

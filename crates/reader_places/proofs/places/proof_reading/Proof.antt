@@ -21,7 +21,7 @@ proof-reading-spec = tie.close (tie.spec
       omega arith,
       c .before .before .before .before .before .before .before .before .pre .0,
       c .before .before .before .before .before .before .before .before .pre .1,
-      room-for-proof,
+      room-for-proof _,
       zeros-zeros 12288,
       zeros-blank 4096,
       zeros-cleared 4096,

@@ -22,7 +22,7 @@ second-reading-spec = tie.close (tie.spec
     (λ c κs. let p = c .before .before .before .before .before .before .before .before .before .before .before .before .before .before .before .before .before .pre in let s = reading-small _ _ _ _
     (c .before .before .before .before .before .before .before .before .length-fits .ensures) (c .before .before .before .before .before .before .before .if1 .left) _
     (c .before .before .before .before .before .before .counts-fit .ensures) (c .before .before .before .before .before .if2 .left) _ (p .2) in
-    (p .0, room-fits _ _ _ _ _ _ (p .3) s, omega (arith, s, p .3 .weights), omega (arith, s, p .3 .names), omega (arith, s, p .3 .links), p .4, p .5, p .6, p .7, p .8, p .9))
+    (p .0, room-fits _ _ _ _ _ _ _ (p .3) (s .0) (s .1), omega (arith, s .1, p .3 .weights (s .0)), omega (arith, s .1, p .3 .names (s .0)), omega (arith, s .1, p .3 .links (s .0)), p .4, p .5, p .6, p .7, p .8, p .9))
     -- same-length: 1 passed; 3 named; 5 table; 7 slots; 9 seen; 10 second-body; 11 second-body-arg5; 12 second-body-arg4; 13 second-body-arg3; 14 second-body-arg2; 15 second-body-arg; 16 if2; 17 counts-fit; 18 if1; 19 length-fits; 28 args
     (λ c. search needs)
     -- same-length-2: 1 passed; 3 named; 5 table; 7 slots; 9 seen; 10 second-body; 11 second-body-arg5; 12 second-body-arg4; 13 second-body-arg3; 14 second-body-arg2; 15 second-body-arg; 16 if2; 17 counts-fit; 18 if1; 19 length-fits; 28 args
