@@ -11,7 +11,7 @@ use borrow.Author.Tests.{eqb-true, eqb-false, ltb-true, ltb-false}
 use Rattle.reader_equality.specs.declared.Key.{Key}
 use Rattle.reader_equality.specs.Keys.{key, bucketOf}
 use Rattle.reader_equality.specs.Tables.{Zeros}
-use Rattle.reader_equality.specs.Slots.{Path, In, Placed, Put, Ended, placed-none, old-put, new-put}
+use Rattle.reader_slots.specs.Slots.{Path, In, Placed, Put, Ended, placed-none, old-put, new-put}
 
 -- a number as a key of the search tree
 unfoldable pub spread : ℕ → Key

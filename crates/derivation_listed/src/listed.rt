@@ -1,12 +1,12 @@
 // The positions of a list of keys in the slots of a search tree, so that a key is found without a search through the list.
 use reader_equality::Key;
-use reader_equality::slots;
 use reader_equality::tables;
+use reader_slots::slots;
 ghost use mathlib.Core.Path.{_≡_};
 ghost use Prim.Native.Nat.{_+_, _*_, _<_, _≤_};
 ghost use lib.ListN.{length};
 ghost use Rattle.reader_equality.specs.Tables.{Zeros};
-ghost use Rattle.reader_equality.specs.Slots.{Placed, Ended};
+ghost use Rattle.reader_slots.specs.Slots.{Placed, Ended};
 ghost use Rattle.derivation_listed.specs.Listed.{spread, listedKey, isListed, Indexed, Space};
 
 // A number as a key of the search tree.

@@ -15,7 +15,7 @@ use Rattle.reader_equality.specs.declared.Key.{Key}
 use Rattle.reader_equality.specs.Tables.{Zeros}
 use Rattle.reader_equality.specs.Least.{leastOf}
 use Rattle.reader_equality.specs.Keys.{partAt, partEntry, keyFrom, part-below}
-use Rattle.reader_equality.specs.Slots.{Placed, Put, Entered, placed-none, placed-next, placed-set, entered-none, entered-next, put-number, put-entered}
+use Rattle.reader_slots.specs.Slots.{Placed, Put, Entered, placed-none, placed-next, placed-set, entered-none, entered-next, put-number, put-entered}
 use Rattle.derivation_rules.specs.Erase.{bareTree}
 use Rattle.derivation_trees.specs.Erased.{Plain, bare-zero, bare-false, bare-true, bare-not, bare-all, bare-plain}
 use Rattle.derivation_trees.specs.Keys.{negationsOf, decoded, Stands, key-one}

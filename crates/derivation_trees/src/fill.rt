@@ -1,8 +1,8 @@
 // Fills the table of keys: records rising, each key from those of smaller records.
 use reader::trees;
 use reader::words;
-use reader_equality::slots;
 use reader_equality::tables;
+use reader_slots::slots;
 ghost use Prim.Native.Nat.{_+_, _*_, _<_, _≤_};
 ghost use lib.ListN.{length};
 ghost use Rattle.reader.specs.Words.{word};

@@ -5,7 +5,7 @@ use proof_rows::paths;
 use reader::trees;
 use reader::words;
 use reader_closedness::tests;
-use reader_equality::numbers;
+use reader_comparison::numbers;
 use reader_instances::instances;
 use reader_types::types;
 ghost use mathlib.Core.Path.{_≡_};

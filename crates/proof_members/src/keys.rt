@@ -1,6 +1,6 @@
 // Keys of members: equal members have equal keys.
 use reader::trees;
-use reader_equality::numbers::number_of;
+use reader_comparison::numbers::number_of;
 use reader_types::shapes::tree_kind;
 ghost use mathlib.Core.Path.{_≡_};
 ghost use Prim.Native.Nat.{_+_, _*_, _<_, _≤_};

@@ -3,7 +3,7 @@
 use reader::trees;
 use reader::words;
 use reader_closedness::tests;
-use reader_equality::numbers;
+use reader_comparison::numbers;
 ghost use mathlib.Core.Path.{_≡_};
 ghost use Prim.Native.Nat.{_+_, _<_, _≤_};
 ghost use Rattle.reader.specs.Words.{word};

@@ -1,6 +1,3 @@
 pub mod Tables
 pub mod Least
 pub mod Keys
-pub mod Compare
-pub mod Slots
-pub mod Numbers

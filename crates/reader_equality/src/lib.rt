@@ -1,8 +1,5 @@
-// Equality of trees in constant time: records are numbered so that equal trees share a number.
-pub mod compare;
+// What tells the trees of records from each other: keys, from tables of the numbers that equal trees share.
 pub mod keys;
-pub mod numbers;
-pub mod slots;
 pub mod tables;
 
 // What tells a record's tree from others: its kind, its atom, and what a table says of its parts.

@@ -31,10 +31,10 @@ fn fits_variable(
     let a = words::word_at(obligation, second, m, j, 1);
     let l = chains::link_at(obligation, second, m, c, a);
     if l == 0 {
-        return reader_equality::numbers::same_at(obligation, second, m, numbers, i, j);
+        return reader_comparison::numbers::same_at(obligation, second, m, numbers, i, j);
     }
     let item = trees::lower_at(obligation, second, m, l, 1);
-    reader_equality::numbers::same_at(obligation, second, m, numbers, i, item)
+    reader_comparison::numbers::same_at(obligation, second, m, numbers, i, item)
 }
 
 // Does what word w of record i refers to fit what word w of record j does?
@@ -102,7 +102,7 @@ pub fn fits_at(
     }
     let x = tables::entry_at(seen, j);
     if x != 0 {
-        return reader_equality::numbers::same_at(obligation, second, m, numbers, i, x);
+        return reader_comparison::numbers::same_at(obligation, second, m, numbers, i, x);
     }
     if words::word_at(obligation, second, m, j, 0) == 6 {
         return fits_variable(obligation, second, m, numbers, i, j, c);

@@ -13,7 +13,7 @@ use Rattle.reader.specs.Names.{nameOf, nameSpace, name, sameName, takenBelow, n
 use Rattle.reader.specs.Records.{nameLengthFits, nameSpelled, nameIsFree}
 use Rattle.reader_equality.specs.declared.Key.{Key}
 use Rattle.reader_equality.specs.Tables.{Zeros}
-use Rattle.reader_equality.specs.Slots.{In, Placed, Put, Ended, placed-none, placed-next, old-put, new-put}
+use Rattle.reader_slots.specs.Slots.{In, Placed, Put, Ended, placed-none, placed-next, old-put, new-put}
 use Rattle.reader_names.specs.NameKeys.{nameKey, key-space, key-name, name-key}
 use Rattle.reader_names.specs.Room.{named-key, unnamed-key}
 

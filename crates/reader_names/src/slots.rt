@@ -1,11 +1,11 @@
 // Symbols in the slots of a search tree, by the keys of their names.
 use crate::keys;
 use reader_equality::Key;
-use reader_equality::slots;
+use reader_slots::slots;
 ghost use Prim.Native.Nat.{_+_, _*_, _<_, _≤_};
 ghost use lib.ListN.{length};
 ghost use Rattle.reader.specs.Words.{word};
-ghost use Rattle.reader_equality.specs.Slots.{Placed, Ended};
+ghost use Rattle.reader_slots.specs.Slots.{Placed, Ended};
 ghost use Rattle.reader_names.specs.NameKeys.{nameKey};
 ghost use Rattle.reader_names.specs.Taken.{Room, Names, Looked};
 

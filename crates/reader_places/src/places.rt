@@ -2,8 +2,8 @@
 use reader::Answer;
 use reader::words;
 use reader_bodies::bodies;
-use reader_equality::numbers::number_all;
 use reader_headers::headers;
+use reader_slots::numbers::number_all;
 ghost use mathlib.Core.Path.{_≡_};
 ghost use mathlib.Core.List.{[]};
 ghost use Prim.Native.Nat.{_+_, _<_, _≤_, min};

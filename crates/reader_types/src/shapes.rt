@@ -34,7 +34,7 @@ pub fn is_set_of(
         return false;
     }
     let element = trees::lower_at(obligation, second, m, s, 1);
-    reader_equality::numbers::same_at(obligation, second, m, numbers, element, x)
+    reader_comparison::numbers::same_at(obligation, second, m, numbers, element, x)
 }
 
 // Is record p the pair type of records x and y?
@@ -54,11 +54,11 @@ pub fn is_pair_of(
         return false;
     }
     let first = trees::lower_at(obligation, second, m, p, 1);
-    if !reader_equality::numbers::same_at(obligation, second, m, numbers, first, x) {
+    if !reader_comparison::numbers::same_at(obligation, second, m, numbers, first, x) {
         return false;
     }
     let last = trees::lower_at(obligation, second, m, p, 2);
-    reader_equality::numbers::same_at(obligation, second, m, numbers, last, y)
+    reader_comparison::numbers::same_at(obligation, second, m, numbers, last, y)
 }
 
 // Is record s the set type of the pair type of records x and y?

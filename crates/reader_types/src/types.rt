@@ -132,7 +132,7 @@ pub fn equal_typed(obligation: &[u8], second: &[u8], m: usize, numbers: &[usize]
 {
     let x = part_type(obligation, second, m, i, 1);
     let y = part_type(obligation, second, m, i, 2);
-    reader_equality::numbers::same_at(obligation, second, m, numbers, x, y)
+    reader_comparison::numbers::same_at(obligation, second, m, numbers, x, y)
 }
 
 // "x ∈ s needs s of type Set(τ) for x of τ"

@@ -194,7 +194,7 @@ fn bears_at(
     let k = words::word_at(obligation, second, m, i, 0);
     if is_index(obligation, second, m, k, i, d, c) {
         let u = part_at(obligation, second, m, k, i, 2);
-        return reader_equality::numbers::same_at(obligation, second, m, numbers, u, t);
+        return reader_comparison::numbers::same_at(obligation, second, m, numbers, u, t);
     }
     let x = part_at(obligation, second, m, k, i, 1);
     if !bears_at(obligation, second, m, numbers, x, d, c, t) {

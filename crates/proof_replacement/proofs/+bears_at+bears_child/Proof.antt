@@ -13,7 +13,7 @@ use Rattle.proof_replacement.proofs.bears_child.Reads as bears-child
 use Rattle.proof_replacement.proofs.bears_child.Kinds as bears-child-kinds
 use Rattle.proof_replacement.proofs.+bears_at+bears_child.Lts-bears_child as bears-child-lts
 use Rattle.reader_closedness.proofs.tests.indices_below.Reads as indices-below-reads
-use Rattle.reader_equality.proofs.numbers.same_at.Reads as same-at-reads
+use Rattle.reader_comparison.proofs.numbers.same_at.Reads as same-at-reads
 use Rattle.reader.proofs.trees.child_at.Reads as child-at-reads
 use Rattle.proof_replacement.proofs.deeper_at.Reads as deeper-at-reads
 use Rattle.proof_replacement.proofs.is_index.Reads as is-index-reads

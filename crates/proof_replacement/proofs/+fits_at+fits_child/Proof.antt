@@ -12,7 +12,7 @@ use Rattle.proof_replacement.proofs.fits_child.Reads as fits-child
 use Rattle.proof_replacement.proofs.fits_child.Kinds as fits-child-kinds
 use Rattle.proof_replacement.proofs.+fits_at+fits_child.Lts-fits_child as fits-child-lts
 use Rattle.reader_closedness.proofs.tests.indices_below.Reads as indices-below-reads
-use Rattle.reader_equality.proofs.numbers.same_at.Reads as same-at-reads
+use Rattle.reader_comparison.proofs.numbers.same_at.Reads as same-at-reads
 use Rattle.reader.proofs.trees.child_at.Reads as child-at-reads
 use Rattle.reader.proofs.trees.same_head.Reads as same-head-reads
 use Rattle.proof_replacement.proofs.deeper_at.Reads as deeper-at-reads

@@ -4,7 +4,7 @@ use Prim.Native.Nat.{_+_, _*_, _-_, _<_}
 use mathlib.Core.Path.{_≡_}
 use lib.ListN.{getD}
 use Rattle.reader_equality.specs.Keys.{bucket-small, keys-equal, keys-differ}
-use Rattle.reader_equality.specs.Slots.{Search, search-start, search-found, search-end, search-more, turn-below, turn-in, turn-rises}
+use Rattle.reader_slots.specs.Slots.{Search, search-start, search-found, search-end, search-more, turn-below, turn-in, turn-rises}
 use Rattle.derivation_listed.specs.Listed.{listedKey}
 use Rattle.derivation_listed.proofs.listed.slot_of.Statement.{statement}
 use Rattle.derivation_listed.proofs.listed.slot_of.Tie as tie

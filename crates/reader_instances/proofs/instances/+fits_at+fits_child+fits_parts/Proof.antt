@@ -15,7 +15,7 @@ use Rattle.reader_instances.proofs.instances.+fits_at+fits_child+fits_p
 use Rattle.reader_instances.proofs.instances.fits_parts.Reads as fits-parts
 use Rattle.reader_instances.proofs.instances.fits_parts.Kinds as fits-parts-kinds
 use Rattle.reader_instances.proofs.instances.+fits_at+fits_child+fits_parts.Lts-fits_parts as fits-parts-lts
-use Rattle.reader_equality.proofs.numbers.same_at.Reads as same-at-reads
+use Rattle.reader_comparison.proofs.numbers.same_at.Reads as same-at-reads
 use Rattle.reader_equality.proofs.tables.entry_at.Reads as entry-at-reads
 use Rattle.reader_equality.proofs.tables.store.Reads as store-reads
 use Rattle.reader.proofs.trees.child_at.Reads as child-at-reads

@@ -5,7 +5,7 @@ use mathlib.Core.Path.{_≡_}
 use lib.ListN.{getD}
 use Rattle.reader.specs.Words.{word}
 use Rattle.reader_equality.specs.Keys.{bucket-small, keys-equal, keys-differ}
-use Rattle.reader_equality.specs.Slots.{Search, search-start, search-found, search-end, search-more, turn-below, turn-in, turn-rises}
+use Rattle.reader_slots.specs.Slots.{Search, search-start, search-found, search-end, search-more, turn-below, turn-in, turn-rises}
 use Rattle.reader_names.specs.NameKeys.{nameKey}
 use Rattle.reader_names.proofs.slots.slot_of.Statement.{statement}
 use Rattle.reader_names.proofs.slots.slot_of.Tie as tie

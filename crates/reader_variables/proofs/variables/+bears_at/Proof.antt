@@ -9,7 +9,7 @@ use borrow.Fn.PlainCycle.{Measures, is, falls, and}
 use Rattle.reader_variables.proofs.variables.bears_at.Reads as bears-at
 use Rattle.reader_variables.proofs.variables.bears_at.Kinds as bears-at-kinds
 use Rattle.reader_variables.proofs.variables.+bears_at.Lts-bears_at as bears-at-lts
-use Rattle.reader_equality.proofs.numbers.same_at.Reads as same-at-reads
+use Rattle.reader_comparison.proofs.numbers.same_at.Reads as same-at-reads
 use Rattle.reader.proofs.words.word_at.Reads as word-at-reads
 use Rattle.reader_chains.proofs.parts.part_at.Reads as part-at-reads
 use Rattle.reader_variables.proofs.variables.deeper.Reads as deeper-reads
