@@ -1,5 +1,5 @@
 // Closedness: how far the indices of a record's tree reach. A recursion over the parts of a record; a table in front of it remembers what was found, so that
-// a test is one comparison. Entry i of the table is reach + 128 * mark + 256 * order of record i: of the marks see marks.rt, of the order orders.rt.
+// a test is one comparison. Entry i of the table is reach + 128 * mark + 256 * order of record i: of the marks see derivation_marks, of the order orders.rt.
 use crate::orders::order_of;
 use reader::trees;
 use reader::words;

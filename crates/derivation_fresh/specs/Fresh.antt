@@ -20,7 +20,7 @@ use Rattle.derivation_rules.specs.Check.{inNeither}
 use Rattle.derivation_trees.specs.Keys.{bodyOf, decoded, Normal, Stands, key-one}
 use Rattle.derivation_trees.specs.Makers.{stands-wider}
 use Rattle.derivation_trees.specs.Table.{Table, KeyOf}
-use Rattle.derivation_closedness.specs.Marks.{Marked}
+use Rattle.derivation_marks.specs.Marks.{Marked}
 use Rattle.derivation_tables.specs.RowLaws.{row-none, by-rule}
 use Rattle.derivation_frames.specs.Frames.{startAt, goalAt, entryAt, membersAt, Framed}
 use Rattle.derivation_tables.specs.Tables.{sourceTree, stepTree, formTree}

@@ -1,8 +1,8 @@
 // Refusal 16: the constant of R7 is in neither a member nor the goal. The records up to the largest that these have are marked first, each once, in the table of
 // reaches; the marks are then taken off again.
-use derivation_closedness::marks;
 use derivation_forms::forms;
 use derivation_frames::frames;
+use derivation_marks::marks;
 use derivation_trees::keys;
 use derivation_trees::parts;
 use reader::trees;
@@ -15,7 +15,7 @@ ghost use Rattle.reader.specs.Tests.{every};
 ghost use Rattle.derivation_trees.specs.Keys.{decoded, Normal};
 ghost use Rattle.derivation_trees.specs.Table.{Table};
 ghost use Rattle.derivation_closedness.specs.Reaches.{Unmarked};
-ghost use Rattle.derivation_closedness.specs.Marks.{Marked};
+ghost use Rattle.derivation_marks.specs.Marks.{Marked};
 ghost use Rattle.derivation_frames.specs.Frames.{startAt, goalAt, addedBy, addedFrom, chainTrees, membersAt, Framed};
 ghost use Rattle.derivation_members.specs.Needs.{At};
 ghost use Rattle.derivation_fresh.specs.Fresh.{lacks, freshIn, nodeFresh, entryBody, Topped, Marking};

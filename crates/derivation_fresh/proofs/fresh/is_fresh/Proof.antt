@@ -1,5 +1,5 @@
 use borrow.Author.Needs.{needs}
-use Rattle.derivation_closedness.specs.Marks.{marks-off}
+use Rattle.derivation_marks.specs.Marks.{marks-off}
 use Rattle.derivation_fresh.proofs.fresh.is_fresh.Statement.{statement}
 use Rattle.derivation_fresh.proofs.fresh.is_fresh.Tie as tie
 

@@ -1,8 +1,8 @@
 use borrow.Author.Needs.{needs}
 use native.Mathlib.Omega.{arith}
-use Rattle.derivation_closedness.specs.Marks.{entry-yes, entry-no}
-use Rattle.derivation_closedness.proofs.marks.marked_entry.Statement.{statement}
-use Rattle.derivation_closedness.proofs.marks.marked_entry.Tie as tie
+use Rattle.derivation_marks.specs.Marks.{entry-yes, entry-no}
+use Rattle.derivation_marks.proofs.marks.marked_entry.Statement.{statement}
+use Rattle.derivation_marks.proofs.marks.marked_entry.Tie as tie
 
 pub marked-entry-spec : {M : Type 1} → statement M
 marked-entry-spec = tie.close (tie.spec

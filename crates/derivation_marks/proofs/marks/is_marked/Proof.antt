@@ -1,7 +1,7 @@
 use borrow.Author.Needs.{needs}
-use Rattle.derivation_closedness.specs.Marks.{mark-low, mark-high}
-use Rattle.derivation_closedness.proofs.marks.is_marked.Statement.{statement}
-use Rattle.derivation_closedness.proofs.marks.is_marked.Tie as tie
+use Rattle.derivation_marks.specs.Marks.{mark-low, mark-high}
+use Rattle.derivation_marks.proofs.marks.is_marked.Statement.{statement}
+use Rattle.derivation_marks.proofs.marks.is_marked.Tie as tie
 
 pub is-marked-spec : {M : Type 1} → statement M
 is-marked-spec = tie.close (tie.spec

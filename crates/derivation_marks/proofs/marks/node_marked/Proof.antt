@@ -1,7 +1,7 @@
 use borrow.Author.Needs.{needs}
-use Rattle.derivation_closedness.specs.Marks.{nodeMarked, eithers}
-use Rattle.derivation_closedness.proofs.marks.node_marked.Statement.{statement}
-use Rattle.derivation_closedness.proofs.marks.node_marked.Tie as tie
+use Rattle.derivation_marks.specs.Marks.{nodeMarked, eithers}
+use Rattle.derivation_marks.proofs.marks.node_marked.Statement.{statement}
+use Rattle.derivation_marks.proofs.marks.node_marked.Tie as tie
 
 pub node-marked-spec : {M : Type 1} → statement M
 unfolding nodeMarked

@@ -3,9 +3,9 @@ use native.Mathlib.Omega.{arith}
 use Prim.Native.Nat.{_*_, _-_, _<_, _≤_}
 use mathlib.Core.Path.{_≡_, refl}
 use lib.ListN.{length, length-set}
-use Rattle.derivation_closedness.specs.Marks.{Changed, withoutMark, changed-none, changed-more, changed-end}
-use Rattle.derivation_closedness.proofs.marks.unmark_all.Statement.{statement}
-use Rattle.derivation_closedness.proofs.marks.unmark_all.Tie as tie
+use Rattle.derivation_marks.specs.Marks.{Changed, withoutMark, changed-none, changed-more, changed-end}
+use Rattle.derivation_marks.proofs.marks.unmark_all.Statement.{statement}
+use Rattle.derivation_marks.proofs.marks.unmark_all.Tie as tie
 
 abbrev Inv-loop : tie.InvT-loop
 Inv-loop reaches₀ c n i₀ reaches i =

@@ -10,8 +10,8 @@ ghost use Rattle.reader.specs.Words.{word};
 ghost use Rattle.reader.specs.Variables.{occurs};
 ghost use Rattle.derivation_rules.specs.Erase.{bareTree};
 ghost use Rattle.derivation_trees.specs.Keys.{decoded, Normal};
-ghost use Rattle.derivation_closedness.specs.Marks.{Marked, Changed, withMark, withoutMark, constantAt, partMarked, nodeMarked};
 ghost use Rattle.derivation_closedness.specs.Reaches.{Unmarked};
+ghost use Rattle.derivation_marks.specs.Marks.{Marked, Changed, withMark, withoutMark, constantAt, partMarked, nodeMarked};
 
 // Is constant c in record x, by the marks of the records below n?
 fn is_marked(

@@ -1,10 +1,10 @@
 use borrow.Author.Needs.{needs}
 use native.Mathlib.Omega.{arith}
-use Rattle.derivation_closedness.specs.Marks.{key-sign, key-record}
+use Rattle.derivation_marks.specs.Marks.{key-sign, key-record}
 use Rattle.derivation_trees.specs.Parts.{body-in}
 use mathlib.Core.Path.{refl}
-use Rattle.derivation_closedness.proofs.marks.key_marked.Statement.{statement}
-use Rattle.derivation_closedness.proofs.marks.key_marked.Tie as tie
+use Rattle.derivation_marks.proofs.marks.key_marked.Statement.{statement}
+use Rattle.derivation_marks.proofs.marks.key_marked.Tie as tie
 
 pub key-marked-spec : {M : Type 1} → statement M
 key-marked-spec = tie.close (tie.spec

@@ -1,7 +1,7 @@
 use borrow.Author.Needs.{needs}
-use Rattle.derivation_closedness.specs.Marks.{in-none, in-true, in-all, in-node, child-low}
-use Rattle.derivation_closedness.proofs.marks.is_in.Statement.{statement}
-use Rattle.derivation_closedness.proofs.marks.is_in.Tie as tie
+use Rattle.derivation_marks.specs.Marks.{in-none, in-true, in-all, in-node, child-low}
+use Rattle.derivation_marks.proofs.marks.is_in.Statement.{statement}
+use Rattle.derivation_marks.proofs.marks.is_in.Tie as tie
 
 pub is-in-spec : {M : Type 1} → statement M
 is-in-spec = tie.close (tie.spec

@@ -1,7 +1,7 @@
 use borrow.Author.Needs.{needs}
-use Rattle.derivation_closedness.specs.Marks.{mark-part, part-low}
-use Rattle.derivation_closedness.proofs.marks.part_marked.Statement.{statement}
-use Rattle.derivation_closedness.proofs.marks.part_marked.Tie as tie
+use Rattle.derivation_marks.specs.Marks.{mark-part, part-low}
+use Rattle.derivation_marks.proofs.marks.part_marked.Statement.{statement}
+use Rattle.derivation_marks.proofs.marks.part_marked.Tie as tie
 
 pub part-marked-spec : {M : Type 1} → statement M
 part-marked-spec = tie.close (tie.spec

@@ -4,9 +4,9 @@ use Prim.Native.Nat.{_*_, _-_, _<_, _≤_}
 use mathlib.Core.Path.{_≡_, refl}
 use lib.ListN.{length, set, length-set}
 use Rattle.reader.specs.Words.{word}
-use Rattle.derivation_closedness.specs.Marks.{Changed, withMark, changed-none, changed-more, changed-end, changed-marked, next-unmarked}
-use Rattle.derivation_closedness.proofs.marks.mark_all.Statement.{statement}
-use Rattle.derivation_closedness.proofs.marks.mark_all.Tie as tie
+use Rattle.derivation_marks.specs.Marks.{Changed, withMark, changed-none, changed-more, changed-end, changed-marked, next-unmarked}
+use Rattle.derivation_marks.proofs.marks.mark_all.Statement.{statement}
+use Rattle.derivation_marks.proofs.marks.mark_all.Tie as tie
 
 abbrev Inv-loop : tie.InvT-loop
 Inv-loop obligation second m reaches₀ c n j₀ reaches j =

@@ -1,0 +1,2 @@
+// Which records a constant occurs in, types removed.
+pub mod marks;
