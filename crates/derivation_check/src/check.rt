@@ -1,7 +1,7 @@
 // The derivation check of two byte areas.
 use crate::start;
 use derivation_closedness::closed;
-use derivation_trees::fill;
+use derivation_filling::fill;
 use derivation_walk::walk;
 use reader::Answer;
 use reader::words;

@@ -2,6 +2,5 @@ pub mod Erased
 pub mod Keys
 pub mod Makers
 pub mod Table
-pub mod Filling
 pub mod Parts
 pub mod Shapes

@@ -5,9 +5,9 @@ use mathlib.Core.Path.{_≡_, refl, _∙_}
 use lib.ListN.{length, set, length-set}
 use lib.Seq.{getD-set-same}
 use Rattle.reader.specs.Words.{word}
-use Rattle.derivation_trees.specs.Filling.{Filling, filling-start, filling-more, table-empty, table-end}
-use Rattle.derivation_trees.proofs.fill.key_all.Statement.{statement}
-use Rattle.derivation_trees.proofs.fill.key_all.Tie as tie
+use Rattle.derivation_filling.specs.Filling.{Filling, filling-start, filling-more, table-empty, table-end}
+use Rattle.derivation_filling.proofs.fill.key_all.Statement.{statement}
+use Rattle.derivation_filling.proofs.fill.key_all.Tie as tie
 
 abbrev Inv-loop : tie.InvT-loop
 Inv-loop obligation second m keys₀ slots₀ i₀ keys slots i =

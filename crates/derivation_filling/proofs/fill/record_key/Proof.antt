@@ -1,8 +1,8 @@
 use borrow.Author.Needs.{needs}
 use native.Mathlib.Omega.{arith}
-use Rattle.derivation_trees.specs.Filling.{made-false, made-true, made-not, made-all, made-record, child-in, child-small}
-use Rattle.derivation_trees.proofs.fill.record_key.Statement.{statement}
-use Rattle.derivation_trees.proofs.fill.record_key.Tie as tie
+use Rattle.derivation_filling.specs.Filling.{made-false, made-true, made-not, made-all, made-record, child-in, child-small}
+use Rattle.derivation_filling.proofs.fill.record_key.Statement.{statement}
+use Rattle.derivation_filling.proofs.fill.record_key.Tie as tie
 
 pub record-key-spec : {M : Type 1} → statement M
 record-key-spec = tie.close (tie.spec

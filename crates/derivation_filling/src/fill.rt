@@ -7,8 +7,8 @@ ghost use Prim.Native.Nat.{_+_, _*_, _<_, _≤_};
 ghost use lib.ListN.{length};
 ghost use Rattle.reader.specs.Words.{word};
 ghost use Rattle.reader_equality.specs.Tables.{Zeros};
 ghost use Rattle.derivation_trees.specs.Table.{Table};
-ghost use Rattle.derivation_trees.specs.Filling.{Filling, Made};
+ghost use Rattle.derivation_filling.specs.Filling.{Filling, Made};
 
 // The key of record i. A record that is the first with its tree is put into the slots, unless it is ⊥, ⊤, a negation or a "for all types".
 fn record_key(

@@ -1,0 +1,2 @@
+// The table that has the key of each record.
+pub mod fill;
