@@ -1,20 +1,12 @@
 // `desk OBLIGATION PROOF` checks a proof against its obligation, and writes the answer's four numbers on one line.
 use programs::files;
 use programs::output;
-use programs_lines::lines;
-use proof_check::check;
+use programs_proof_answer::answer;
 ghost use mathlib.Core.Path.{_≡_};
 ghost use lib.ListN.{length};
 ghost use Rattle.proof_rules.specs.Check.{proofAnswer};
-ghost use Rattle.programs_lines.specs.Lines.{line, EndsIn};
-ghost use Rattle.desk.specs.Enough.{obligationRead, proofRead};
-
-// Writes the line of the answer to two files at the end of the area; where it begins.
-fn put_answer(obligation: &[u8], proof: &[u8], out: &mut [u8; 84]) -> usize
-    ensures { λ r. ⌜ EndsIn (proofAnswer (now (obligation .entry)) (now (proof .entry))) (now (out .entry)) (now (out .exit)) r ⌝ }
-{
-    lines::put_line(out, check::check_proof(obligation, proof))
-}
+ghost use Rattle.programs_lines.specs.Lines.{line};
+ghost use Rattle.programs_limits.specs.Limits.{obligationRead, proofRead};
 
 // Writes to standard output bytes that are the line of the answer to two files, as its caller shows.
 fn write_answer(obligation: &[u8], proof: &[u8], text: &[u8])
@@ -26,7 +18,7 @@ fn write_answer(obligation: &[u8], proof: &[u8], text: &[u8])
 // Answers two files.
 fn print_answer(obligation: &[u8], proof: &[u8]) {
     let mut out = [0u8; 84];
-    let begin = put_answer(obligation, proof, &mut out);
+    let begin = answer::put_answer(obligation, proof, &mut out);
     write_answer(obligation, proof, &out[begin..]);
 }
 

@@ -1,20 +1,12 @@
 // `desk_derivation OBLIGATION DERIVATION` checks a derivation against its obligation, and writes the answer's four numbers on one line.
-use derivation_check::check;
 use programs::files;
 use programs::output;
-use programs_lines::lines;
+use programs_derivation_answer::answer;
 ghost use mathlib.Core.Path.{_≡_};
 ghost use lib.ListN.{length};
 ghost use Rattle.derivation_rules.specs.Check.{derivationAnswer};
-ghost use Rattle.programs_lines.specs.Lines.{line, EndsIn};
-ghost use Rattle.desk_derivation.specs.Enough.{obligationRead, derivationRead};
-
-// Writes the line of the answer to two files at the end of the area; where it begins.
-fn put_answer(obligation: &[u8], derivation: &[u8], out: &mut [u8; 84]) -> usize
-    ensures { λ r. ⌜ EndsIn (derivationAnswer (now (obligation .entry)) (now (derivation .entry))) (now (out .entry)) (now (out .exit)) r ⌝ }
-{
-    lines::put_line(out, check::check_derivation(obligation, derivation))
-}
+ghost use Rattle.programs_lines.specs.Lines.{line};
+ghost use Rattle.programs_limits.specs.Limits.{obligationRead, derivationRead};
 
 // Writes to standard output bytes that are the line of the answer to two files, as its caller shows.
 fn write_answer(obligation: &[u8], derivation: &[u8], text: &[u8])
@@ -26,7 +18,7 @@ fn write_answer(obligation: &[u8], derivation: &[u8], text: &[u8])
 // Answers two files.
 fn print_answer(obligation: &[u8], derivation: &[u8]) {
     let mut out = [0u8; 84];
-    let begin = put_answer(obligation, derivation, &mut out);
+    let begin = answer::put_answer(obligation, derivation, &mut out);
     write_answer(obligation, derivation, &out[begin..]);
 }
 

@@ -3,37 +3,13 @@
 use programs::files;
 use programs::output;
 use programs::saved;
-use programs_lines::lines;
-use translation::translate;
+use programs_translation_answer::answer;
 ghost use mathlib.Core.Path.{_≡_};
 ghost use lib.ListN.{length as size};
 ghost use Rattle.proof_rules.specs.Check.{proofAnswer};
 ghost use Rattle.programs_lines.specs.Lines.{translationLine};
-ghost use Rattle.desk_translate.specs.Enough.{obligationRead, proofRead, bufferSize};
-ghost use Rattle.desk_translate.specs.Shown.{Shown, Derives};
-
-// What came of a pair: the answer's refusal, the derivation's length in the buffer, and where the line begins.
-struct Outcome {
-    refusal: usize,
-    length: usize,
-    begin: usize,
-}
-
-// Translates into the buffer, and writes the line of the answer at the end of the area.
-fn put_answer(obligation: &[u8], proof: &[u8], buffer: &mut [u8], out: &mut [u8; 105]) -> Outcome
-    ensures { λ r. ⌜ Shown (now (obligation .entry)) (now (proof .entry)) (now (buffer .entry)) (now (buffer .exit)) (now (out .entry)) (now (out .exit)) (r .refusal) (r .length) (r .begin) ⌝ }
-{
-    let translation = translate::translate(obligation, proof, buffer);
-    let answer = translation.answer;
-    let length = translation.length;
-    let begin = lines::put_translation(out, answer, length);
-    let refusal = answer.refusal;
-    Outcome {
-        refusal,
-        length,
-        begin,
-    }
-}
+ghost use Rattle.programs_limits.specs.Limits.{obligationRead, proofRead, bufferSize};
+ghost use Rattle.programs_translation_answer.specs.Shown.{Derives};
 
 // Saves bytes that the derivation check accepts beside the obligation, as its caller shows; whether it is done.
 fn save_derivation(obligation: &[u8], derivation: &[u8]) -> bool
@@ -54,7 +30,7 @@ fn answer_into(obligation: &[u8], proof: &[u8], buffer: &mut [u8])
     requires { ⌜ size (now buffer) ≡ bufferSize ⌝ }
 {
     let mut out = [0u8; 105];
-    let outcome = put_answer(obligation, proof, buffer, &mut out);
+    let outcome = answer::put_answer(obligation, proof, buffer, &mut out);
     let length = outcome.length;
     let begin = outcome.begin;
     if outcome.refusal == 0 {

@@ -1,5 +1,5 @@
 use borrow.Author.Needs.{needs}
-use Rattle.desk_translate.specs.Shown.{saved-derives, written-line}
+use Rattle.programs_translation_answer.specs.Shown.{saved-derives, written-line}
 use Rattle.desk_translate.proofs.answer_into.Statement.{statement}
 use Rattle.desk_translate.proofs.answer_into.Tie as tie
 

@@ -1,0 +1,2 @@
+// The translation of two files, and the line of its answer.
+pub mod answer;
