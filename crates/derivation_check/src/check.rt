@@ -1,7 +1,7 @@
 // The derivation check of two byte areas.
-use crate::start;
 use derivation_closedness::closed;
 use derivation_filling::fill;
+use derivation_start::start;
 use derivation_walk::walk;
 use reader::Answer;
 use reader::words;
@@ -15,7 +15,7 @@ ghost use Rattle.reader.specs.Words.{word};
 ghost use Rattle.reader.specs.Places.{rootOf};
 ghost use Rattle.derivation_rules.specs.Check.{derivationWalk, derivationAnswer};
 ghost use Rattle.derivation_trees.specs.Table.{Table};
-ghost use Rattle.derivation_check.specs.Started.{Entering, Prepared};
+ghost use Rattle.derivation_check.specs.Entering.{Entering, Prepared};
 
 // Fills the table of keys. The slots are needed here alone.
 fn key_records(obligation: &[u8], derivation: &[u8], m: usize, keys: &mut [usize])

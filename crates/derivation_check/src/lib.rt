@@ -1,3 +1,2 @@
 // The derivation check: any two byte areas get the four numbers of the definition.
 pub mod check;
-mod start;

@@ -1,5 +1,5 @@
 use borrow.Author.Needs.{needs}
-use Rattle.derivation_check.specs.Started.{prepared-read, prepared-keys}
+use Rattle.derivation_check.specs.Entering.{prepared-read, prepared-keys}
 use Rattle.derivation_check.proofs.check.prepare.Statement.{statement}
 use Rattle.derivation_check.proofs.check.prepare.Tie as tie
 

@@ -1,6 +1,6 @@
 use borrow.Author.Needs.{needs}
 use mathlib.Core.Path.{refl}
-use Rattle.derivation_check.specs.Started.{enter-small, enter-indexed, enter-start, enter-root, enter-ready, walked-from}
+use Rattle.derivation_check.specs.Entering.{enter-small, enter-indexed, enter-start, enter-root, enter-ready, walked-from}
 use Rattle.derivation_check.proofs.check.walk_derivation.Statement.{statement}
 use Rattle.derivation_check.proofs.check.walk_derivation.Tie as tie
 

@@ -6,7 +6,7 @@ use reader::trees;
 use reader::words;
 ghost use lib.ListN.{length};
 ghost use Rattle.reader.specs.Words.{word};
-ghost use Rattle.derivation_check.specs.Started.{Starting, Started};
+ghost use Rattle.derivation_start.specs.Started.{Starting, Started};
 
 // Writes the frame of the root.
 pub fn store_start(obligation: &[u8], second: &[u8], m: usize, keys: &[usize], frames: &mut [usize])

@@ -1,8 +1,8 @@
 use borrow.Author.Needs.{needs}
 use native.Mathlib.Omega.{arith}
-use Rattle.derivation_check.specs.Started.{formula-in, root-written}
-use Rattle.derivation_check.proofs.start.store_start.Statement.{statement}
-use Rattle.derivation_check.proofs.start.store_start.Tie as tie
+use Rattle.derivation_start.specs.Started.{formula-in, root-written}
+use Rattle.derivation_start.proofs.start.store_start.Statement.{statement}
+use Rattle.derivation_start.proofs.start.store_start.Tie as tie
 
 pub store-start-spec : {M : Type 1} → statement M
 store-start-spec = tie.close (tie.spec

@@ -1,0 +1,2 @@
+// The start of a walk over a derivation: the root's frame.
+pub mod start;
