@@ -3,16 +3,17 @@ use Prim.Native.Nat.{ℕ, zero, suc, _+_, _<_, _≤_}
 use mathlib.Core.Path.{_≡_, refl, sym, ap, _∙_}
 use mathlib.Core.List.{List}
 use mathlib.Core.Bool.{Bool, true, false, false≢true}
-use lib.ListN.{length, take, replicate, length-replicate}
+use lib.ListN.{length, take, length-replicate}
 use lib.Seq.{length-take-le}
 use native.Mathlib.Omega.{arith}
 use borrow.Author.Tests.{eq-eqb, ne-eqb}
 use Rattle.reader.specs.declared.Answer.{Answer}
-use Rattle.reader.specs.Words.{Reader, wordOf, word}
+use Rattle.reader.specs.Words.{Reader, wordOf, word, recordCount}
 use Rattle.reader.specs.Tests.{ifEq}
 use Rattle.reader.specs.Kinds.{isRule}
 use Rattle.reader.specs.Answers.{accepted, orAnswer}
 use Rattle.reader.specs.Places.{mostRecords, countOf, rootOf, reading}
+use Rattle.reader_bodies.specs.Places.{zeros}
 use Rattle.reader_laws.specs.File.{ReadObligation, ReadSecond, beside, lastOf, reading-parts, length-parts, header-parts, counts-parts}
 use Rattle.reader_laws.specs.Parts.{bound-variable-first}
 use Rattle.reader_laws.specs.Pair.{header-kind, pair-sound, rule-range, root-range, pair-goal-range, pair-hypotheses-range, pair-hypotheses-limit}
@@ -32,6 +33,13 @@ pub record Entering (ob s : List ℕ) (m : ℕ) (keys reaches frames : List ℕ)
   pub counted : m ≡ countOf ob
   pub all : length keys ≡ m + countOf s + 1
   pub far : length reaches ≡ m + countOf s + 1
+  pub long : length frames ≡ 32776
+
+-- tables with room for the records of any obligation and of derivation s, unless that is longer than any accepted one
+pub record Lent (s keys reaches frames : List ℕ) : Type 0 where
+  pub room : recordCount s ≤ 200001 → 1023 + recordCount s ≤ length keys
+  pub far : recordCount s ≤ 200001 → 1023 + recordCount s ≤ length reaches
+  pub small : length keys ≤ 201024
   pub long : length frames ≡ 32776
 
 -- what comes before the walk is done: the pair is read, or the keys are there
@@ -61,12 +69,12 @@ module _ (ob s : List ℕ) (read : reading 2 ob s .refusal ≡ 0) where
       let b = header-parts ob (both-read .0 .header) in
       omega (arith, a .2, b .1)
 
-  derivation-few : countOf s < 200001
+  derivation-counted : (recordCount s ≤ 200001) × (countOf s + 1 ≡ recordCount s)
   unfolding mostRecords ifEq
-  derivation-few =
-      let a = length-parts 2 s (both-read .1 .lengthOf) in
-      let b = header-parts s (counts-parts ob s (both-read .1 .counts) .0) in
-      omega (arith, a .2, b .1)
+  derivation-counted = (length-parts 2 s (both-read .1 .lengthOf) .2, header-parts s (counts-parts ob s (both-read .1 .counts) .0) .1)
+
+  derivation-few : countOf s < 200001
+  derivation-few = let few = derivation-counted in omega (arith, few .0, few .1)
 
 -- The conditions of the calls of `walk_derivation`.
 module _ (ob s : List ℕ) (m : ℕ) (keys reaches frames : List ℕ) (enter : Entering ob s m keys reaches frames) where
@@ -157,17 +165,38 @@ module _ (ob s : List ℕ) (a : Answer) (ea : a ≡ reading 2 ob s) where
     pub counts-few : (m n : ℕ) → m ≡ wordOf ob 0 1 → n ≡ wordOf s 0 1 → m + n + 1 ≤ 201024
     counts-few m n em en = omega (arith, obligation-few ob s check-read, derivation-few ob s check-read)
 
+    -- the part of a table that the walk is lent
+    part-within : (m n : ℕ) (table : List ℕ) → m ≡ wordOf ob 0 1 → n ≡ wordOf s 0 1 → (recordCount s ≤ 200001 → 1023 + recordCount s ≤ length table) → m + n + 1 ≤ length table
+    part-within m n table em en room =
+        let few = derivation-counted ob s check-read in
+        omega (arith, obligation-few ob s check-read, few .1, room (few .0))
+
+    module _ (m n : ℕ) (em : m ≡ wordOf ob 0 1) (en : n ≡ wordOf s 0 1) (keys reaches frames : List ℕ) (lent : Lent s keys reaches frames) where
+      pub keys-within : m + n + 1 ≤ length keys
+      keys-within = part-within m n keys em en (lent .room)
+
+      pub reaches-within : m + n + 1 ≤ length reaches
+      reaches-within = part-within m n reaches em en (lent .far)
+
     pub entering : (m n size : ℕ) (keys reaches frames : List ℕ) → m ≡ wordOf ob 0 1 → n ≡ wordOf s 0 1 → size ≡ m + n + 1 → length keys ≡ size →
         length reaches ≡ size → length frames ≡ 32776 → Entering ob s m keys reaches frames
     entering m n size keys reaches frames em en es l f k =
         record { read = check-read; counted = em; all = l ∙ es ∙ rw en refl; far = f ∙ es ∙ rw en refl; long = k }
 
 -- the part of a table that the walk is lent
-pub prefix-length : (k : ℕ) (table : List ℕ) (n : ℕ) → k ≤ n → n ≤ length table → length (take k table) ≡ k
-prefix-length k table n h g = length-take-le k table (omega arith)
+pub prefix-length : (k : ℕ) (table : List ℕ) → k ≤ length table → length (take k table) ≡ k
+prefix-length k table h = length-take-le k table h
 
--- the part of the table that has keys
-pub part-length : (k : ℕ) → k ≤ 201024 → length {A = ℕ} (take k (replicate 201024 0)) ≡ k
-part-length k h =
-    let long : length {A = ℕ} (replicate 201024 0) ≡ 201024 = length-replicate {A = ℕ} 201024 0 in
-    prefix-length k (replicate 201024 0) 201024 h (rw long (omega arith))
+-- Tables of zeros, for few records and for any number.
+module _ (s frames : List ℕ) (long : length frames ≡ 32776) where
+  zeros-lent : (n most : ℕ) → n ≤ 201024 → 1023 + most ≤ n → (recordCount s ≤ 200001 → recordCount s ≤ most) → Lent s (zeros n) (zeros n) frames
+  zeros-lent n most few room least =
+      let e : length (zeros n) ≡ n = length-replicate {A = ℕ} n 0 in
+      let all : recordCount s ≤ 200001 → 1023 + recordCount s ≤ length (zeros n) = λ p. rw e (omega (arith, least p)) in
+      record { room = all; far = all; small = rw e few; long = long }
+
+  pub few-lent : recordCount s ≤ 3073 → Lent s (zeros 4096) (zeros 4096) frames
+  few-lent h = zeros-lent 4096 3073 (omega arith) (omega arith) (λ p. h)
+
+  pub many-lent : Lent s (zeros 201024) (zeros 201024) frames
+  many-lent = zeros-lent 201024 200001 (omega arith) (omega arith) (λ p. p)

@@ -4,11 +4,11 @@ use Prim.Native.Nat.{ℕ}
 use mathlib.Core.Path.{sym}
 use lib.ListN.{length-replicate}
 use Rattle.reader_bodies.specs.Places.{zeros-zeros}
-use Rattle.derivation_check.proofs.check.key_records.Statement.{statement}
-use Rattle.derivation_check.proofs.check.key_records.Tie as tie
+use Rattle.derivation_check.proofs.check.key_many.Statement.{statement}
+use Rattle.derivation_check.proofs.check.key_many.Tie as tie
 
-pub key-records-spec : {M : Type 1} → statement M
-key-records-spec = tie.close (tie.spec
+pub key-many-spec : {M : Type 1} → statement M
+key-many-spec = tie.close (tie.spec
     -- slice-aggregate-key-all: slots; 1 key-all-arg; 5 args
     (λ c. sym (length-replicate {A = ℕ} 406144 0))
     -- key-all-requires: slots; 1 key-all-arg; 5 args
