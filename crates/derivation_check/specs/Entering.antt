@@ -1,4 +1,4 @@
--- The walk over a pair that passes places 1 to 12, and what comes before it.
+-- The walk over a pair that passes places 1 to 12, and the tables that it is lent.
 use Prim.Native.Nat.{ℕ, zero, suc, _+_, _<_, _≤_}
 use mathlib.Core.Path.{_≡_, refl, sym, ap, _∙_}
 use mathlib.Core.List.{List}
@@ -41,21 +41,6 @@ pub record Lent (s keys reaches frames : List ℕ) : Type 0 where
   pub far : recordCount s ≤ 200001 → 1023 + recordCount s ≤ length reaches
   pub small : length keys ≤ 201024
   pub long : length frames ≡ 32776
-
--- what comes before the walk is done: the pair is read, or the keys are there
-pub record Prepared (ob s : List ℕ) (m : ℕ) (first : Bool) (r : Answer) (before keys : List ℕ) : Type 0 where
-  pub answers : first ≡ true → r ≡ reading 2 ob s
-  pub same : first ≡ true → keys ≡ before
-  pub accepts : first ≡ false → r ≡ accepted 0
-  pub table : first ≡ false → Table (word ob s m) keys
-
-pub prepared-read : (ob s : List ℕ) (m : ℕ) (first : Bool) (r : Answer) (keys : List ℕ) → first ≡ true → r ≡ reading 2 ob s → Prepared ob s m first r keys keys
-prepared-read ob s m first r keys h e =
-    record { answers = λ p. e; same = λ p. refl; accepts = λ p. absurd (false≢true (sym p ∙ h)); table = λ p. absurd (false≢true (sym p ∙ h)) }
-
-pub prepared-keys : (ob s : List ℕ) (m : ℕ) (first : Bool) (before keys : List ℕ) → first ≡ false → Table (word ob s m) keys → Prepared ob s m first (accepted 0) before keys
-prepared-keys ob s m first before keys h t =
-    record { answers = λ p. absurd (false≢true (sym h ∙ p)); same = λ p. absurd (false≢true (sym h ∙ p)); accepts = λ p. refl; table = λ p. t }
 
 -- Pairs that pass places 1 to 12.
 module _ (ob s : List ℕ) (read : reading 2 ob s .refusal ≡ 0) where

@@ -1,7 +1,7 @@
 use borrow.Author.Needs.{needs}
-use Rattle.derivation_check.specs.Entering.{prepared-read, prepared-keys}
-use Rattle.derivation_check.proofs.check.prepare.Statement.{statement}
-use Rattle.derivation_check.proofs.check.prepare.Tie as tie
+use Rattle.derivation_prepare.specs.Prepared.{prepared-read, prepared-keys}
+use Rattle.derivation_prepare.proofs.prepare.prepare.Statement.{statement}
+use Rattle.derivation_prepare.proofs.prepare.prepare.Tie as tie
 
 pub prepare-spec : {M : Type 1} → statement M
 prepare-spec = tie.close (tie.spec
