@@ -59,18 +59,20 @@ fn fits_equation(
     numbers::same_at(obligation, second, m, numbers, t, u)
 }
 
-// The ∀ on path p, a term, and the ∀'s body with the term in it: has the term the ∀'s type, and is the body so?
+// The ∀ on path p, a term, and the ∀'s body with the term in it: has the term the ∀'s type, and is the body so? The table is scratch, zeros
+// before and zeros again.
 fn fits_quantified(
     obligation: &[u8],
     second: &[u8],
     m: usize,
     numbers: &[usize],
     reaches: &[usize],
+    seen: &mut [usize],
     n: usize,
     p: u8,
 ) -> bool
-    requires { ⌜ Numbered (word (now obligation) (now second) m) (now numbers) (length (now numbers)) × Reached (word (now obligation) (now second) m) (now reaches) (length (now reaches)) ⌝ }
-    ensures { λ r. ⌜ r ≡ quantified (partTrees (word (now (obligation .entry)) (now (second .entry)) m) n) (pathTree (partTrees (word (now (obligation .entry)) (now (second .entry)) m) n) p) ⌝ }
+    requires { ⌜ Numbered (word (now obligation) (now second) m) (now numbers) (length (now numbers)) × Reached (word (now obligation) (now second) m) (now reaches) (length (now reaches)) × Zeros (now seen) ⌝ }
+    ensures { λ r. ⌜ (r ≡ quantified (partTrees (word (now (obligation .entry)) (now (second .entry)) m) n) (pathTree (partTrees (word (now (obligation .entry)) (now (second .entry)) m) n) p)) × Zeros (now (seen .exit)) ⌝ }
 {
     let c = trees::lower_at(obligation, second, m, n, 1);
     let q = paths::path_record(obligation, second, m, n, p);
@@ -85,7 +87,17 @@ fn fits_quantified(
     if !numbers::same_at(obligation, second, m, numbers, own, wanted) {
         return false;
     }
-    is_replaced(obligation, second, m, numbers, reaches, instance, t, body)
+    is_replaced(
+        obligation,
+        second,
+        m,
+        numbers,
+        reaches,
+        seen,
+        instance,
+        t,
+        body,
+    )
 }
 
 // A kind 22, its instance and types: is the instance its formula with the types put in? The table is scratch, zeros before and zeros again.
@@ -95,11 +107,11 @@ fn fits_instance(
     m: usize,
     numbers: &[usize],
     reaches: &[usize],
-    scratch: &mut [usize],
+    seen: &mut [usize],
     n: usize,
 ) -> bool
-    requires { ⌜ Numbered (word (now obligation) (now second) m) (now numbers) (length (now numbers)) × Reached (word (now obligation) (now second) m) (now reaches) (length (now reaches)) × Zeros (now scratch) ⌝ }
-    ensures { λ r. ⌜ (r ≡ fits45 (partTrees (word (now (obligation .entry)) (now (second .entry)) m) n)) × Zeros (now (scratch .exit)) ⌝ }
+    requires { ⌜ Numbered (word (now obligation) (now second) m) (now numbers) (length (now numbers)) × Reached (word (now obligation) (now second) m) (now reaches) (length (now reaches)) × Zeros (now seen) ⌝ }
+    ensures { λ r. ⌜ (r ≡ fits45 (partTrees (word (now (obligation .entry)) (now (second .entry)) m) n)) × Zeros (now (seen .exit)) ⌝ }
 {
     let c = trees::lower_at(obligation, second, m, n, 1);
     let rest = trees::lower_at(obligation, second, m, c, 3);
@@ -113,24 +125,26 @@ fn fits_instance(
         second,
         m,
         numbers,
-        scratch,
+        seen,
         instance,
         formula,
         rest,
     )
 }
 
-// B, t, u, B(t), B(u): "t and u one type", that of each place of index 0, and the last two parts are B with them put in.
+// B, t, u, B(t), B(u): "t and u one type", that of each place of index 0, and the last two parts are B with them put in. The table
+// is scratch, zeros before and zeros again.
 fn fits_places(
     obligation: &[u8],
     second: &[u8],
     m: usize,
     numbers: &[usize],
     reaches: &[usize],
+    seen: &mut [usize],
     n: usize,
 ) -> bool
-    requires { ⌜ Numbered (word (now obligation) (now second) m) (now numbers) (length (now numbers)) × Reached (word (now obligation) (now second) m) (now reaches) (length (now reaches)) ⌝ }
-    ensures { λ r. ⌜ r ≡ places (partTrees (word (now (obligation .entry)) (now (second .entry)) m) n) ⌝ }
+    requires { ⌜ Numbered (word (now obligation) (now second) m) (now numbers) (length (now numbers)) × Reached (word (now obligation) (now second) m) (now reaches) (length (now reaches)) × Zeros (now seen) ⌝ }
+    ensures { λ r. ⌜ (r ≡ places (partTrees (word (now (obligation .entry)) (now (second .entry)) m) n)) × Zeros (now (seen .exit)) ⌝ }
 {
     let body = paths::part_of(obligation, second, m, n, 0);
     let t = paths::part_of(obligation, second, m, n, 1);
@@ -140,46 +154,58 @@ fn fits_places(
     if !numbers::same_at(obligation, second, m, numbers, t_type, u_type) {
         return false;
     }
-    if !bears(obligation, second, m, numbers, reaches, body, t_type) {
+    if !bears(obligation, second, m, numbers, reaches, seen, body, t_type) {
         return false;
     }
-    fits_replaced(obligation, second, m, numbers, reaches, n, body, t, u)
+    fits_replaced(obligation, second, m, numbers, reaches, seen, n, body, t, u)
 }
 
-// Are parts 3 and 4 of node n record `body` with t and with u in place of index 0?
+// Are parts 3 and 4 of node n record `body` with t and with u in place of index 0? The table is scratch, zeros before and zeros again.
 fn fits_replaced(
     obligation: &[u8],
     second: &[u8],
     m: usize,
     numbers: &[usize],
     reaches: &[usize],
+    seen: &mut [usize],
     n: usize,
     body: usize,
     t: usize,
     u: usize,
 ) -> bool
-    requires { ⌜ Numbered (word (now obligation) (now second) m) (now numbers) (length (now numbers)) × Reached (word (now obligation) (now second) m) (now reaches) (length (now reaches)) ⌝ }
-    ensures { λ r. ⌜ r ≡ replacedParts (word (now (obligation .entry)) (now (second .entry)) m) n body t u ⌝ }
+    requires { ⌜ Numbered (word (now obligation) (now second) m) (now numbers) (length (now numbers)) × Reached (word (now obligation) (now second) m) (now reaches) (length (now reaches)) × Zeros (now seen) ⌝ }
+    ensures { λ r. ⌜ (r ≡ replacedParts (word (now (obligation .entry)) (now (second .entry)) m) n body t u) × Zeros (now (seen .exit)) ⌝ }
 {
-    let with_t = paths::part_of(obligation, second, m, n, 3);
-    let with_u = paths::part_of(obligation, second, m, n, 4);
-    if !is_replaced(obligation, second, m, numbers, reaches, with_t, t, body) {
+    let one = paths::part_of(obligation, second, m, n, 3);
+    let other = paths::part_of(obligation, second, m, n, 4);
+    if !is_replaced(obligation, second, m, numbers, reaches, seen, one, t, body) {
         return false;
     }
-    is_replaced(obligation, second, m, numbers, reaches, with_u, u, body)
+    is_replaced(
+        obligation,
+        second,
+        m,
+        numbers,
+        reaches,
+        seen,
+        other,
+        u,
+        body,
+    )
 }
 
-// "B is open in index 0 at most", the other parts are closed, and the places fit.
+// "B is open in index 0 at most", the other parts are closed, and the places fit. The table is scratch, zeros before and zeros again.
 fn fits_equality(
     obligation: &[u8],
     second: &[u8],
     m: usize,
     numbers: &[usize],
     reaches: &[usize],
+    seen: &mut [usize],
     n: usize,
 ) -> bool
-    requires { ⌜ Numbered (word (now obligation) (now second) m) (now numbers) (length (now numbers)) × Reached (word (now obligation) (now second) m) (now reaches) (length (now reaches)) ⌝ }
-    ensures { λ r. ⌜ r ≡ fits46 (partTrees (word (now (obligation .entry)) (now (second .entry)) m) n) ⌝ }
+    requires { ⌜ Numbered (word (now obligation) (now second) m) (now numbers) (length (now numbers)) × Reached (word (now obligation) (now second) m) (now reaches) (length (now reaches)) × Zeros (now seen) ⌝ }
+    ensures { λ r. ⌜ (r ≡ fits46 (partTrees (word (now (obligation .entry)) (now (second .entry)) m) n)) × Zeros (now (seen .exit)) ⌝ }
 {
     let c = trees::lower_at(obligation, second, m, n, 1);
     let rest = trees::lower_at(obligation, second, m, c, 3);
@@ -190,7 +216,7 @@ fn fits_equality(
     if !are_closed(obligation, second, m, reaches, rest) {
         return false;
     }
-    fits_places(obligation, second, m, numbers, reaches, n)
+    fits_places(obligation, second, m, numbers, reaches, seen, n)
 }
 
 // Do the parts of node n fit, as its rule asks? The table is scratch, zeros before and zeros again.
@@ -200,11 +226,11 @@ pub fn fits(
     m: usize,
     numbers: &[usize],
     reaches: &[usize],
-    scratch: &mut [usize],
+    seen: &mut [usize],
     n: usize,
 ) -> bool
-    requires { ⌜ Numbered (word (now obligation) (now second) m) (now numbers) (length (now numbers)) × Reached (word (now obligation) (now second) m) (now reaches) (length (now reaches)) × Zeros (now scratch) ⌝ }
-    ensures { λ r. ⌜ (r ≡ rowOf (word (now (obligation .entry)) (now (second .entry)) m) n .fits) × Zeros (now (scratch .exit)) ⌝ }
+    requires { ⌜ Numbered (word (now obligation) (now second) m) (now numbers) (length (now numbers)) × Reached (word (now obligation) (now second) m) (now reaches) (length (now reaches)) × Zeros (now seen) ⌝ }
+    ensures { λ r. ⌜ (r ≡ rowOf (word (now (obligation .entry)) (now (second .entry)) m) n .fits) × Zeros (now (seen .exit)) ⌝ }
 {
     let k = words::word_at(obligation, second, m, n, 0);
     if k < 32 {
@@ -217,16 +243,16 @@ pub fn fits(
         return fits_equation(obligation, second, m, numbers, reaches, n);
     }
     if k == 43 {
-        return fits_quantified(obligation, second, m, numbers, reaches, n, 3);
+        return fits_quantified(obligation, second, m, numbers, reaches, seen, n, 3);
     }
     if k == 44 {
-        return fits_quantified(obligation, second, m, numbers, reaches, n, 0);
+        return fits_quantified(obligation, second, m, numbers, reaches, seen, n, 0);
     }
     if k == 45 {
-        return fits_instance(obligation, second, m, numbers, reaches, scratch, n);
+        return fits_instance(obligation, second, m, numbers, reaches, seen, n);
     }
     if k == 46 {
-        return fits_equality(obligation, second, m, numbers, reaches, n);
+        return fits_equality(obligation, second, m, numbers, reaches, seen, n);
     }
     let c = trees::lower_at(obligation, second, m, n, 1);
     are_closed(obligation, second, m, reaches, c)

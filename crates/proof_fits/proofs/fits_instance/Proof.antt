@@ -20,7 +20,7 @@ fits-instance-spec = tie.close (tie.spec
     (λ c. (search (instance-fits, boths), c .before .before .before .before .before .before .before .before .before .before .before .pre .2))
     -- same-instance-requires: same-instance-arg; 1 if1; 2 are-closed; 3 part-of; 4 path-record; 5 lower-at2; 6 lower-at; 12 args
     (λ c κs. search needs)
-    -- same-length: 1 scratch; 2 same-instance; 3 same-instance-arg; 4 if1; 5 are-closed; 6 part-of; 7 path-record; 8 lower-at2; 9 lower-at; 15 args
+    -- same-length: 1 seen; 2 same-instance; 3 same-instance-arg; 4 if1; 5 are-closed; 6 part-of; 7 path-record; 8 lower-at2; 9 lower-at; 15 args
     (λ c. search needs)
-    -- returns-2: 1 scratch; 2 same-instance; 3 same-instance-arg; 4 if1; 5 are-closed; 6 part-of; 7 path-record; 8 lower-at2; 9 lower-at; 15 args
+    -- returns-2: 1 seen; 2 same-instance; 3 same-instance-arg; 4 if1; 5 are-closed; 6 part-of; 7 path-record; 8 lower-at2; 9 lower-at; 15 args
     (λ c. (search (instance-fits, boths), c .before .before .same-instance .ensures .1)))
