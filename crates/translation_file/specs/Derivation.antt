@@ -10,8 +10,8 @@ use Rattle.translation_rules.specs.Templates.{linesOfStart}
 use Rattle.translation_rules.specs.Output.{value, before, endOf, startOf, written, lettersOfStart}
 use Rattle.translation_rules.specs.Bytes.{bytes16, linesBytes, blocksBytes, copiesBytes, headerBytes, derivationBytes}
 use Rattle.translation_addresses.specs.Addresses.{last-is, written-most, written-fits}
+use Rattle.translation_values.specs.Ends.{Ends}
 use Rattle.translation_write.specs.Put.{put, put-put}
-use Rattle.translation_write.specs.Ends.{Ends}
 use Rattle.translation_write.specs.Nodes.{Room, length-blocks}
 use Rattle.translation_write.specs.Copies.{length-copies}
 

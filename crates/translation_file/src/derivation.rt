@@ -1,10 +1,10 @@
 // The whole derivation.
 use reader::words;
+use translation_values::ends;
+use translation_values::values;
 use translation_write::blocks;
 use translation_write::copies;
-use translation_write::ends;
 use translation_write::records;
-use translation_write::values;
 ghost use mathlib.Core.Path.{_≡_};
 ghost use Prim.Native.Nat.{_+_, _*_, _<_, _≤_};
 ghost use lib.ListN.{length};
@@ -12,8 +12,8 @@ ghost use Rattle.reader.specs.Words.{word};
 ghost use Rattle.reader.specs.Places.{countOf, rootOf};
 ghost use Rattle.translation_rules.specs.Output.{startOf, written};
 ghost use Rattle.translation_rules.specs.Bytes.{derivationBytes};
+ghost use Rattle.translation_values.specs.Ends.{Ends};
 ghost use Rattle.translation_write.specs.Put.{put};
-ghost use Rattle.translation_write.specs.Ends.{Ends};
 ghost use Rattle.translation_write.specs.Nodes.{Room};
 ghost use Rattle.translation_file.specs.Derivation.{Ready, startBytes, fileBytes};
 

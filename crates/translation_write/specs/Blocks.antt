@@ -11,9 +11,9 @@ use Rattle.reader.specs.Kinds.{modes, isRule}
 use Rattle.translation_rules.specs.Templates.{Line, template}
 use Rattle.translation_rules.specs.Output.{Letters, noLine}
 use Rattle.translation_rules.specs.Bytes.{bytes16, lineBytes, linesBytes}
-use Rattle.translation_write.specs.Put.{put, put-nothing, put-put}
 use Rattle.translation_lines.specs.Codes.{lineOf}
-use Rattle.translation_write.specs.Values.{lettersIn, valueIn}
+use Rattle.translation_values.specs.Values.{lettersIn, valueIn}
+use Rattle.translation_write.specs.Put.{put, put-nothing, put-put}
 
 -- The block of node i that starts at record `base` has its place in the buffer, where record m + 1 is the first after the header.
 pub record Place (rd : Reader) (m i base : ℕ) (buffer : List ℕ) : Type 0 where

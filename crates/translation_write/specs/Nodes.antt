@@ -20,10 +20,10 @@ use Rattle.translation_rules.specs.Templates.{Cell, none, part, inside, deeper,
 use Rattle.translation_rules.specs.Output.{Letters, value, noLine, size, before, baseOf, endOf, startOf, written, lettersOf}
 use Rattle.translation_rules.specs.Bytes.{lineBytes, linesBytes, blockBytes, blocksBytes}
 use Rattle.translation_addresses.specs.Addresses.{size-rule, size-other, base-after, base-start, end-is, last-is, written-most}
+use Rattle.translation_values.specs.Values.{lettersIn}
+use Rattle.translation_values.specs.Ends.{Ends}
 use Rattle.translation_write.specs.Put.{put, put-nothing, put-put}
-use Rattle.translation_write.specs.Values.{lettersIn}
 use Rattle.translation_write.specs.Blocks.{Place, blockLines, length-lines}
-use Rattle.translation_write.specs.Ends.{Ends}
 
 -- Items of chains are smaller than the chain's record.
 module _ (rd : Reader) where

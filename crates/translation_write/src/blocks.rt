@@ -1,10 +1,10 @@
 // Blocks: the records that stand for one rule node of the proof.
 use crate::records;
-use crate::values;
-use crate::values::Block;
 use reader::kinds;
 use reader::words;
 use translation_lines::lines;
+use translation_values::values;
+use translation_values::values::Block;
 ghost use mathlib.Core.Path.{_≡_};
 ghost use Prim.Native.Nat.{_+_, _*_, _-_, _<_, _≤_};
 ghost use lib.ListN.{length};
@@ -12,9 +12,9 @@ ghost use Rattle.reader.specs.Words.{word};
 ghost use Rattle.translation_rules.specs.Templates.{template};
 ghost use Rattle.translation_rules.specs.Output.{baseOf};
 ghost use Rattle.translation_rules.specs.Bytes.{blockBytes, blocksBytes};
+ghost use Rattle.translation_values.specs.Ends.{Ends};
 ghost use Rattle.translation_write.specs.Put.{put};
 ghost use Rattle.translation_write.specs.Blocks.{Place, blockLine, blockLines};
-ghost use Rattle.translation_write.specs.Ends.{Ends};
 ghost use Rattle.translation_write.specs.Nodes.{Room};
 
 // Line r of the block of a node.

@@ -1,6 +1,4 @@
 // The records that a proof is translated to: copies and blocks, written one after the other into a buffer that the caller lends.
 pub mod blocks;
 pub mod copies;
-pub mod ends;
 pub mod records;
-pub mod values;

@@ -1,7 +1,7 @@
 use borrow.Author.Needs.{needs}
 use Rattle.reader.specs.WordLaws.{past-end}
-use Rattle.translation_write.proofs.values.entry_at.Statement.{statement}
-use Rattle.translation_write.proofs.values.entry_at.Tie as tie
+use Rattle.translation_values.proofs.values.entry_at.Statement.{statement}
+use Rattle.translation_values.proofs.values.entry_at.Tie as tie
 
 pub entry-at-spec : {M : Type 1} → statement M
 entry-at-spec = tie.close (tie.spec

@@ -5,9 +5,9 @@ use mathlib.Core.Path.{_≡_, refl, _∙_}
 use lib.ListN.{length, drop, length-set}
 use Rattle.reader.specs.Words.{word}
 use Rattle.translation_rules.specs.Output.{baseOf}
-use Rattle.translation_write.specs.Ends.{Ends, base-first, base-next, base-last, base-bounds, ends-none, ends-more, ends-all, past-kept}
-use Rattle.translation_write.proofs.ends.fill_ends.Statement.{statement}
-use Rattle.translation_write.proofs.ends.fill_ends.Tie as tie
+use Rattle.translation_values.specs.Ends.{Ends, base-first, base-next, base-last, base-bounds, ends-none, ends-more, ends-all, past-kept}
+use Rattle.translation_values.proofs.ends.fill_ends.Statement.{statement}
+use Rattle.translation_values.proofs.ends.fill_ends.Tie as tie
 
 abbrev Inv-loop : tie.InvT-loop
 Inv-loop obligation proof m n ends₀ base₀ i₀ ends base i =

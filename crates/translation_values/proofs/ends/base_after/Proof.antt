@@ -1,7 +1,7 @@
 use borrow.Author.Needs.{needs}
 use Rattle.reader.specs.TestLaws.{ifs}
-use Rattle.translation_write.proofs.ends.base_after.Statement.{statement}
-use Rattle.translation_write.proofs.ends.base_after.Tie as tie
+use Rattle.translation_values.proofs.ends.base_after.Statement.{statement}
+use Rattle.translation_values.proofs.ends.base_after.Tie as tie
 
 pub base-after-spec : {M : Type 1} → statement M
 base-after-spec = tie.close (tie.spec

@@ -1,7 +1,7 @@
 use borrow.Author.Needs.{needs}
-use Rattle.translation_write.specs.Values.{part-is}
-use Rattle.translation_write.proofs.values.part_at.Statement.{statement}
-use Rattle.translation_write.proofs.values.part_at.Tie as tie
+use Rattle.translation_values.specs.Values.{part-is}
+use Rattle.translation_values.proofs.values.part_at.Statement.{statement}
+use Rattle.translation_values.proofs.values.part_at.Tie as tie
 
 pub part-at-spec : {M : Type 1} → statement M
 part-at-spec = tie.close (tie.spec

@@ -10,7 +10,7 @@ ghost use lib.ListN.{getD};
 ghost use Rattle.reader.specs.Words.{word};
 ghost use Rattle.reader.specs.Chains.{parts, premises};
 ghost use Rattle.translation_rules.specs.Output.{typeRecord};
-ghost use Rattle.translation_write.specs.Values.{valueIn};
+ghost use Rattle.translation_values.specs.Values.{valueIn};
 
 // The block of a node, by its first record's number.
 pub struct Block {

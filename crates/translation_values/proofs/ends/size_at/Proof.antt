@@ -1,9 +1,9 @@
 use borrow.Author.Needs.{needs}
 use borrow.Author.Tests.{not-false}
 use mathlib.Core.Path.{sym, _∙_}
-use Rattle.translation_write.specs.Ends.{sized-other, sized-rule}
-use Rattle.translation_write.proofs.ends.size_at.Statement.{statement}
-use Rattle.translation_write.proofs.ends.size_at.Tie as tie
+use Rattle.translation_values.specs.Ends.{sized-other, sized-rule}
+use Rattle.translation_values.proofs.ends.size_at.Statement.{statement}
+use Rattle.translation_values.proofs.ends.size_at.Tie as tie
 
 pub size-at-spec : {M : Type 1} → statement M
 size-at-spec = tie.close (tie.spec

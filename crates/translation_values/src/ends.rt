@@ -8,7 +8,7 @@ ghost use lib.ListN.{length, drop};
 ghost use Rattle.reader.specs.Words.{word};
 ghost use Rattle.reader.specs.Tests.{ifLt};
 ghost use Rattle.translation_rules.specs.Output.{startOf};
-ghost use Rattle.translation_write.specs.Ends.{Ends, Sized};
+ghost use Rattle.translation_values.specs.Ends.{Ends, Sized};
 
 // How many records the block of record i has.
 fn size_at(obligation: &[u8], proof: &[u8], m: usize, i: usize) -> usize

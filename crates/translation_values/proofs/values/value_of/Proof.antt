@@ -1,9 +1,9 @@
 use borrow.Author.Needs.{needs}
 use native.Mathlib.Omega.{arith}
 use mathlib.Core.Path.{refl}
-use Rattle.translation_write.specs.Values.{value-none, value-part, value-conclusion, value-own}
-use Rattle.translation_write.proofs.values.value_of.Statement.{statement}
-use Rattle.translation_write.proofs.values.value_of.Tie as tie
+use Rattle.translation_values.specs.Values.{value-none, value-part, value-conclusion, value-own}
+use Rattle.translation_values.proofs.values.value_of.Statement.{statement}
+use Rattle.translation_values.proofs.values.value_of.Tie as tie
 
 pub value-of-spec : {M : Type 1} → statement M
 value-of-spec = tie.close (tie.spec

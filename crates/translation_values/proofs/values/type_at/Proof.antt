@@ -1,8 +1,8 @@
 use borrow.Author.Needs.{needs}
 use Rattle.reader.specs.TestLaws.{ifs-of}
-use Rattle.translation_write.specs.Values.{type-is, type-of-application}
-use Rattle.translation_write.proofs.values.type_at.Statement.{statement}
-use Rattle.translation_write.proofs.values.type_at.Tie as tie
+use Rattle.translation_values.specs.Values.{type-is, type-of-application}
+use Rattle.translation_values.proofs.values.type_at.Statement.{statement}
+use Rattle.translation_values.proofs.values.type_at.Tie as tie
 
 pub type-at-spec : {M : Type 1} → statement M
 type-at-spec = tie.close (tie.spec

@@ -1,9 +1,9 @@
 use borrow.Author.Needs.{needs}
 use native.Mathlib.Omega.{arith}
 use mathlib.Core.Path.{refl}
-use Rattle.translation_write.specs.Values.{value-inside, value-deeper, value-type, value-bottom}
-use Rattle.translation_write.proofs.values.inner_value.Statement.{statement}
-use Rattle.translation_write.proofs.values.inner_value.Tie as tie
+use Rattle.translation_values.specs.Values.{value-inside, value-deeper, value-type, value-bottom}
+use Rattle.translation_values.proofs.values.inner_value.Statement.{statement}
+use Rattle.translation_values.proofs.values.inner_value.Tie as tie
 
 pub inner-value-spec : {M : Type 1} → statement M
 inner-value-spec = tie.close (tie.spec

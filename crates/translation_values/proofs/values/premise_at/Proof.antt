@@ -1,7 +1,7 @@
 use borrow.Author.Needs.{needs}
-use Rattle.translation_write.specs.Values.{premise-is}
-use Rattle.translation_write.proofs.values.premise_at.Statement.{statement}
-use Rattle.translation_write.proofs.values.premise_at.Tie as tie
+use Rattle.translation_values.specs.Values.{premise-is}
+use Rattle.translation_values.proofs.values.premise_at.Statement.{statement}
+use Rattle.translation_values.proofs.values.premise_at.Tie as tie
 
 pub premise-at-spec : {M : Type 1} → statement M
 premise-at-spec = tie.close (tie.spec
