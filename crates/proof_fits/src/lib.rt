@@ -1,5 +1,5 @@
 // Refusal 15 of a proof's nodes: letters that stand for one thing are equal, replacement, types, closedness.
-use proof_replacement::bears;
+use proof_places::bears;
 use proof_replacement::is_replaced;
 use proof_rows::paths;
 use reader::trees;

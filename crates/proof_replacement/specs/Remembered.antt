@@ -1,4 +1,4 @@
--- What the code remembers of a record: that another one fits it, or that its places bear a type, at the depth of its last index, one less than its reach.
+-- What the code remembers of a record: that another one fits it at the depth of its last index, one less than its reach.
 use Prim.Native.Nat.{ℕ, _-_, _<_}
 use mathlib.Core.Path.{_≡_, sym, _∙_}
 use mathlib.Core.List.{List}
@@ -13,7 +13,6 @@ use Rattle.reader.specs.TreeLaws.{same-equal}
 use Rattle.reader_closedness.specs.Reach.{reach}
 use Rattle.reader_equality.specs.Tables.{Zeros, stored}
 use Rattle.proof_replacement.specs.Fits.{fits}
-use Rattle.proof_replacement.specs.Places.{bearsAt}
 
 -- the last index of record j that is not bound in it
 unfoldable pub lastIndex : Reader → ℕ → ℕ
@@ -23,17 +22,13 @@ lastIndex rd j = reach false (tree rd j) - 1
 pub record Remembered (rd : Reader) (t : ℕ) (seen : List ℕ) : Type 0 where
   pub fitting : (j : ℕ) → 0 < getD seen j 0 → fits rd (getD seen j 0) j t (lastIndex rd j) ≡ true
 
--- every occurrence of the last index of record i, where its entry is not 0, bears the type of record t
-pub record Borne (rd : Reader) (t : ℕ) (seen : List ℕ) : Type 0 where
-  pub bearing : (i : ℕ) → 0 < getD seen i 0 → bearsAt rd i t (lastIndex rd i) ≡ true
-
 -- what was not found is not remembered
 pub nothing-more : (b s : Bool) (R : Type 0) → (s ≡ b) × R → not s ≡ true → (false ≡ b) × R
 nothing-more b s R f h = (sym (not-true s h) ∙ f .0, f .1)
 
 -- the depth at which the code looks a record up
 module _ (rd : Reader) (j d r : ℕ) (er : r ≡ reach false (tree rd j)) (last : r - 1 ≡ d) where
-  depth-is : d ≡ lastIndex rd j
+  pub depth-is : d ≡ lastIndex rd j
   unfolding lastIndex
   depth-is = rw (← er) (sym last)
 
@@ -52,18 +47,5 @@ module _ (rd : Reader) (j d r : ℕ) (er : r ≡ reach false (tree rd j)) (last 
       let one : tree rd x ≡ replaced d (tree rd t) (tree rd j) = same-equal (tree rd x) (replaced d (tree rd t) (tree rd j)) fit in
       rw (← one) h
 
-  pub borne-more : (t v : ℕ) (seen after : List ℕ) (s : Bool) → (s ≡ bearsAt rd j t d) × Borne rd t seen → not s ≡ false → after ≡ set seen j v →
-      (true ≡ bearsAt rd j t d) × Borne rd t after
-  borne-more t v seen after s f h q =
-      let e : true ≡ bearsAt rd j t d = sym (not-false s h) ∙ f .0 in
-      let bear : bearsAt rd j t (lastIndex rd j) ≡ true = rw (← depth-is) (sym e) in
-      (e, rw q (record { bearing = stored (λ k x. bearsAt rd k t (lastIndex rd k) ≡ true) seen j v (f .1 .bearing) bear }))
-
-  pub borne-is : (t x : ℕ) (seen : List ℕ) → Borne rd t seen → x ≡ getD seen j 0 → (x ≡ 0 → ⊥) → true ≡ bearsAt rd j t d
-  borne-is t x seen memory e some = rw depth-is (sym (memory .bearing j (omega arith)))
-
 pub remembered-none : (rd : Reader) (t : ℕ) (seen : List ℕ) → Zeros seen → Remembered rd t seen
 remembered-none rd t seen z = record { fitting = λ j h. absurd (omega (arith, z .zeros j)) }
-
-pub borne-none : (rd : Reader) (t : ℕ) (seen : List ℕ) → Zeros seen → Borne rd t seen
-borne-none rd t seen z = record { bearing = λ i h. absurd (omega (arith, z .zeros i)) }

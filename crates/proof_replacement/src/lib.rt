@@ -1,5 +1,4 @@
-// Replacement: is a record what another one is with index 0 replaced, and have the places of index 0 one type? What has no index to replace is compared
-// at once. What is found of a record at the depth of its last index is remembered in a lent table, and it is not walked twice there.
+// Replacement: is a record what another one is with index 0 replaced? What has no index to replace is compared at once. What is found of a record at the depth of its last index is remembered in a lent table, and it is not walked twice there.
 use reader::trees;
 use reader::words;
 use reader_closedness::reaches::reach_at;
@@ -10,18 +9,17 @@ ghost use mathlib.Core.Bool.{false};
 ghost use Prim.Native.Nat.{_+_, _<_, _≤_};
 ghost use Rattle.reader.specs.Words.{word};
 ghost use Rattle.reader.specs.Trees.{tree, same};
-ghost use Rattle.reader.specs.Variables.{replaced, bears};
+ghost use Rattle.reader.specs.Variables.{replaced};
 ghost use lib.ListN.{length};
 ghost use Rattle.reader_closedness.specs.Reach.{reach};
 ghost use Rattle.reader_closedness.specs.Reaches.{Reached};
 ghost use Rattle.reader_equality.specs.Least.{Numbered};
 ghost use Rattle.reader_equality.specs.Tables.{Zeros};
 ghost use Rattle.proof_replacement.specs.Fits.{indexAt, deeper, fits, fitsChild};
-ghost use Rattle.proof_replacement.specs.Places.{bearsAt, bearsChild};
-ghost use Rattle.proof_replacement.specs.Remembered.{Remembered, Borne};
+ghost use Rattle.proof_replacement.specs.Remembered.{Remembered};
 
 // How far the indices of record i reach: one more than its last index that is not bound in it, 0 where there is none.
-fn reach_of(obligation: &[u8], second: &[u8], m: usize, reaches: &[usize], i: usize) -> usize
+pub fn reach_of(obligation: &[u8], second: &[u8], m: usize, reaches: &[usize], i: usize) -> usize
     requires { ⌜ Reached (word (now obligation) (now second) m) (now reaches) (length (now reaches)) ⌝ }
     ensures { λ r. ⌜ r ≡ reach false (tree (word (now (obligation .entry)) (now (second .entry)) m) i) ⌝ }
 {
@@ -29,7 +27,7 @@ fn reach_of(obligation: &[u8], second: &[u8], m: usize, reaches: &[usize], i: us
 }
 
 // Is record j the bound variable with index d?
-fn is_index(obligation: &[u8], second: &[u8], m: usize, j: usize, d: usize) -> bool
+pub fn is_index(obligation: &[u8], second: &[u8], m: usize, j: usize, d: usize) -> bool
     ensures { λ r. ⌜ r ≡ indexAt (word (now (obligation .entry)) (now (second .entry)) m) j d ⌝ }
 {
     if words::word_at(obligation, second, m, j, 0) != 9 {
@@ -39,7 +37,7 @@ fn is_index(obligation: &[u8], second: &[u8], m: usize, j: usize, d: usize) -> b
 }
 
 // The index that stands for d below word 2 of record j.
-fn deeper_at(obligation: &[u8], second: &[u8], m: usize, j: usize, d: usize) -> usize
+pub fn deeper_at(obligation: &[u8], second: &[u8], m: usize, j: usize, d: usize) -> usize
     requires { ⌜ d < 18446744073709551615 ⌝ }
     ensures { λ r. ⌜ (r ≡ deeper (word (now (obligation .entry)) (now (second .entry)) m) j d) × (r ≤ d + 1) ⌝ }
 {
@@ -161,110 +159,6 @@ pub fn is_replaced(
         return numbers::same_at(obligation, second, m, numbers, i, j);
     }
     let r = fits_at(obligation, second, m, numbers, reaches, seen, i, j, t, 0);
-    tables::clear(seen);
-    r
-}
-
-// Does every occurrence of index d in what word w of record i refers to bear type t?
-fn bears_child(
-    obligation: &[u8],
-    second: &[u8],
-    m: usize,
-    numbers: &[usize],
-    reaches: &[usize],
-    seen: &mut [usize],
-    i: usize,
-    t: usize,
-    d: usize,
-    w: u8,
-) -> bool
-    requires { ⌜ (0 < i) × (d + i ≤ 18446744073709551616) × Numbered (word (now obligation) (now second) m) (now numbers) (length (now numbers)) × Reached (word (now obligation) (now second) m) (now reaches) (length (now reaches)) × Borne (word (now obligation) (now second) m) t (now seen) ⌝ }
-    ensures { λ r. ⌜ (r ≡ bearsChild (word (now (obligation .entry)) (now (second .entry)) m) i t d w) × Borne (word (now (obligation .entry)) (now (second .entry)) m) t (now (seen .exit)) ⌝ }
-{
-    let x = trees::child_at(obligation, second, m, i, w);
-    bears_at(obligation, second, m, numbers, reaches, seen, x, t, d)
-}
-
-// The same for a record i that is not 0, whatever is remembered of it.
-fn bears_open(
-    obligation: &[u8],
-    second: &[u8],
-    m: usize,
-    numbers: &[usize],
-    reaches: &[usize],
-    seen: &mut [usize],
-    i: usize,
-    t: usize,
-    d: usize,
-) -> bool
-    requires { ⌜ (0 < i) × (d + i < 18446744073709551616) × Numbered (word (now obligation) (now second) m) (now numbers) (length (now numbers)) × Reached (word (now obligation) (now second) m) (now reaches) (length (now reaches)) × Borne (word (now obligation) (now second) m) t (now seen) ⌝ }
-    ensures { λ r. ⌜ (r ≡ bearsAt (word (now (obligation .entry)) (now (second .entry)) m) i t d) × Borne (word (now (obligation .entry)) (now (second .entry)) m) t (now (seen .exit)) ⌝ }
-{
-    if is_index(obligation, second, m, i, d) {
-        let u = trees::child_at(obligation, second, m, i, 2);
-        return numbers::same_at(obligation, second, m, numbers, u, t);
-    }
-    if !bears_child(obligation, second, m, numbers, reaches, seen, i, t, d, 1) {
-        return false;
-    }
-    let e = deeper_at(obligation, second, m, i, d);
-    if !bears_child(obligation, second, m, numbers, reaches, seen, i, t, e, 2) {
-        return false;
-    }
-    bears_child(obligation, second, m, numbers, reaches, seen, i, t, d, 3)
-}
-
-// Does every occurrence of index d in record i bear type t?
-fn bears_at(
-    obligation: &[u8],
-    second: &[u8],
-    m: usize,
-    numbers: &[usize],
-    reaches: &[usize],
-    seen: &mut [usize],
-    i: usize,
-    t: usize,
-    d: usize,
-) -> bool
-    requires { ⌜ (d + i < 18446744073709551616) × Numbered (word (now obligation) (now second) m) (now numbers) (length (now numbers)) × Reached (word (now obligation) (now second) m) (now reaches) (length (now reaches)) × Borne (word (now obligation) (now second) m) t (now seen) ⌝ }
-    ensures { λ r. ⌜ (r ≡ bearsAt (word (now (obligation .entry)) (now (second .entry)) m) i t d) × Borne (word (now (obligation .entry)) (now (second .entry)) m) t (now (seen .exit)) ⌝ }
-{
-    let r = reach_of(obligation, second, m, reaches, i);
-    if r <= d {
-        return true;
-    }
-    if r - 1 != d {
-        return bears_open(obligation, second, m, numbers, reaches, seen, i, t, d);
-    }
-    if tables::entry_at(seen, i) != 0 {
-        return true;
-    }
-    if !bears_open(obligation, second, m, numbers, reaches, seen, i, t, d) {
-        return false;
-    }
-    tables::store(seen, i, 1);
-    true
-}
-
-// Does every occurrence of index 0 in record i bear type t? The table is scratch, zeros before and zeros again.
-pub fn bears(
-    obligation: &[u8],
-    second: &[u8],
-    m: usize,
-    numbers: &[usize],
-    reaches: &[usize],
-    seen: &mut [usize],
-    i: usize,
-    t: usize,
-) -> bool
-    requires { ⌜ Numbered (word (now obligation) (now second) m) (now numbers) (length (now numbers)) × Reached (word (now obligation) (now second) m) (now reaches) (length (now reaches)) × Zeros (now seen) ⌝ }
-    ensures { λ r. ⌜ (r ≡ bears 0 (tree (word (now (obligation .entry)) (now (second .entry)) m) t) (tree (word (now (obligation .entry)) (now (second .entry)) m) i)) × Zeros (now (seen .exit)) ⌝ }
-{
-    // A record without an index leaves the table as it is, and there is nothing to clear.
-    if reach_of(obligation, second, m, reaches, i) == 0 {
-        return true;
-    }
-    let r = bears_at(obligation, second, m, numbers, reaches, seen, i, t, 0);
     tables::clear(seen);
     r
 }

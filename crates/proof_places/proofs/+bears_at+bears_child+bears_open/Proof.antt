@@ -1,30 +1,31 @@
 use borrow.Author.Needs.{needs}
 use native.Mathlib.Omega.{arith}
 use Rattle.reader.specs.TestLaws.{both-stop, both-go}
 use Rattle.proof_replacement.specs.Fits.{open-positive, open-parts, fits-falls}
-use Rattle.proof_replacement.specs.Places.{places-none, place-index, places-more, bears-deeper, bears-child}
-use Rattle.proof_replacement.specs.Remembered.{nothing-more, borne-is, borne-more}
+use Rattle.proof_places.specs.Places.{places-none, place-index, places-more, bears-deeper, bears-child}
+use Rattle.proof_replacement.specs.Remembered.{nothing-more}
+use Rattle.proof_places.specs.Borne.{borne-is, borne-more}
 use Prim.Native.Nat.{ℕ, _+_, _*_, _<_}
 use borrow.Fn.Kinds.{In}
 use borrow.Fn.PlainCycle.{Measures, is, falls, and}
-use Rattle.proof_replacement.proofs.bears_at.Reads as bears-at
-use Rattle.proof_replacement.proofs.bears_at.Kinds as bears-at-kinds
-use Rattle.proof_replacement.proofs.+bears_at+bears_child+bears_open.Lts-bears_at as bears-at-lts
-use Rattle.proof_replacement.proofs.bears_child.Reads as bears-child
-use Rattle.proof_replacement.proofs.bears_child.Kinds as bears-child-kinds
-use Rattle.proof_replacement.proofs.+bears_at+bears_child+bears_open.Lts-bears_child as bears-child-lts
-use Rattle.proof_replacement.proofs.bears_open.Reads as bears-open
-use Rattle.proof_replacement.proofs.bears_open.Kinds as bears-open-kinds
-use Rattle.proof_replacement.proofs.+bears_at+bears_child+bears_open.Lts-bears_open as bears-open-lts
+use Rattle.proof_places.proofs.bears_at.Reads as bears-at
+use Rattle.proof_places.proofs.bears_at.Kinds as bears-at-kinds
+use Rattle.proof_places.proofs.+bears_at+bears_child+bears_open.Lts-bears_at as bears-at-lts
+use Rattle.proof_places.proofs.bears_child.Reads as bears-child
+use Rattle.proof_places.proofs.bears_child.Kinds as bears-child-kinds
+use Rattle.proof_places.proofs.+bears_at+bears_child+bears_open.Lts-bears_child as bears-child-lts
+use Rattle.proof_places.proofs.bears_open.Reads as bears-open
+use Rattle.proof_places.proofs.bears_open.Kinds as bears-open-kinds
+use Rattle.proof_places.proofs.+bears_at+bears_child+bears_open.Lts-bears_open as bears-open-lts
 use Rattle.reader_comparison.proofs.numbers.same_at.Reads as same-at-reads
 use Rattle.reader_equality.proofs.tables.entry_at.Reads as entry-at-reads
 use Rattle.reader_equality.proofs.tables.store.Reads as store-reads
 use Rattle.reader.proofs.trees.child_at.Reads as child-at-reads
 use Rattle.proof_replacement.proofs.deeper_at.Reads as deeper-at-reads
 use Rattle.proof_replacement.proofs.is_index.Reads as is-index-reads
 use Rattle.proof_replacement.proofs.reach_of.Reads as reach-of-reads
-use Rattle.proof_replacement.proofs.+bears_at+bears_child+bears_open.{statement}
-use Rattle.proof_replacement.proofs.+bears_at+bears_child+bears_open.Tie.{close}
+use Rattle.proof_places.proofs.+bears_at+bears_child+bears_open.{statement}
+use Rattle.proof_places.proofs.+bears_at+bears_child+bears_open.Tie.{close}
 
 abbrev μ-bears-at : Measures 5 bears-at-kinds.ps ℕ
 μ-bears-at κs a = 3 * a .1 .1 .1 .1 .1 .1 .0 + 2

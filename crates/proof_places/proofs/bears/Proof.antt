@@ -1,9 +1,9 @@
 use borrow.Author.Needs.{needs}
 use native.Mathlib.Omega.{arith}
-use Rattle.proof_replacement.specs.Places.{places-none, bears-whole}
-use Rattle.proof_replacement.specs.Remembered.{borne-none}
-use Rattle.proof_replacement.proofs.bears.Statement.{statement}
-use Rattle.proof_replacement.proofs.bears.Tie as tie
+use Rattle.proof_places.specs.Places.{places-none, bears-whole}
+use Rattle.proof_places.specs.Borne.{borne-none}
+use Rattle.proof_places.proofs.bears.Statement.{statement}
+use Rattle.proof_places.proofs.bears.Tie as tie
 
 pub bears-spec : {M : Type 1} → statement M
 bears-spec = tie.close (tie.spec

@@ -1,0 +1,2 @@
+pub mod Borne
+pub mod Places
