@@ -2,11 +2,14 @@
 use Prim.Native.Nat.{ℕ, zero, suc, _-_, _/_, _%_, _<_, _≤_}
 use mathlib.Core.Path.{_≡_, refl, sym, ap, _∙_}
 use mathlib.Core.List.{List}
+use mathlib.Core.Bool.{Bool, true, false}
+use lib.Dec.{eqb, ltb}
 use lib.ListN.{length, getD}
 use native.Mathlib.Omega.{arith}
+use borrow.Author.Tests.{eqb-true, eqb-false, ltb-true, ltb-false}
 use Rattle.reader.specs.Words.{Reader}
 use Rattle.reader.specs.Tests.{ifEq, ifLt}
-use Rattle.reader.specs.TestLaws.{lt-yes, lt-no}
+use Rattle.reader.specs.TestLaws.{eq-yes, eq-no, lt-yes, lt-no}
 use Rattle.reader.specs.Trees.{Tree, leaf, ⊥ᵗ}
 use Rattle.derivation_trees.specs.Keys.{negationsOf, bodyOf, bodyTree, negate, decoded, Normal, by-body, body-none, body-bottom, body-record}
 use Rattle.derivation_trees.specs.Erased.{Plain, bare-plain}
@@ -17,6 +20,10 @@ use Rattle.derivation_replacement.specs.Replaced.{Tables}
 -- which of three orders is the largest, the first such one
 unfoldable pub largest : ℕ → ℕ → ℕ → ℕ
 largest a b c = ifLt a b (ifLt b c 3 2) (ifLt a c 3 1)
+
+-- what the table has as the order of a key: 0 for the empty tree, 1 for ⊥ with any ¬ before it
+unfoldable pub orderIn : List ℕ → ℕ → ℕ
+orderIn reaches j = ifEq j 0 0 (ifLt (j % 262144) 2 1 (getD reaches (j % 262144 - 1) 0 / 256))
 
 unfoldable pub lastPart : Reader → ℕ → ℕ
 lastPart rd j = largest (order (partOf 1 (decoded rd j))) (order (partOf 2 (decoded rd j))) (order (partOf 3 (decoded rd j)))
@@ -39,14 +46,6 @@ module _ (a b c : ℕ) where
   unfolding largest
   largest-first p q = lt-no a b (ifLt b c 3 2) (ifLt a c 3 1) 1 p (lt-no a c 3 1 1 q refl)
 
--- The way out of `last_part`: x, y and z are the keys of the parts, and a, b and c their orders.
-pub last-made : (rd : Reader) (size j x y z a b c r : ℕ) → Part rd size j x (partOf 1 (decoded rd j)) → a ≡ order (decoded rd x) →
-    Part rd size j y (partOf 2 (decoded rd j)) → b ≡ order (decoded rd y) → Part rd size j z (partOf 3 (decoded rd j)) → c ≡ order (decoded rd z) →
-    r ≡ largest a b c → r ≡ lastPart rd j
-unfolding lastPart
-last-made rd size j x y z a b c r px ea py eb pz ec er =
-    rw (← px .stands .means, ← py .stands .means, ← pz .stands .means, ← ea, ← eb, ← ec) er
-
 -- ¬ before a tree that is no leaf leaves its order.
 order-negate : (n : ℕ) (t : Tree) → 0 < order t → order (negate n t) ≡ order t
 unfolding negate
@@ -62,9 +61,9 @@ order-negations (suc n) =
     let less : order (negate (suc n) leaf) ≡ 1 = order-negations n in
     order-not (negate (suc n) leaf) (omega arith) ∙ less
 
--- The ways out of `order_of`.
+-- The order of a key's tree, by the table.
 module _ (rd : Reader) (j : ℕ) where
-  pub key-none : j ≡ 0 → 0 ≡ order (decoded rd j)
+  key-none : j ≡ 0 → 0 ≡ order (decoded rd j)
   unfolding order
   key-none h = rw (as-none rd j h) refl
 
@@ -82,11 +81,11 @@ module _ (rd : Reader) (j : ℕ) where
       go (suc k) p = sym (order-negations k)
 
   module _ (b : ℕ) (eb : b ≡ j % 262144) where
-    pub key-sign : (j ≡ 0 → ⊥) → b < 2 → 1 ≡ order (decoded rd j)
+    key-sign : (j ≡ 0 → ⊥) → b < 2 → 1 ≡ order (decoded rd j)
     unfolding decoded negationsOf bodyOf
     key-sign some h = rw (← eb) (sign-order (j / 262144) b (λ e. omega arith) h)
 
-    pub key-record : (size : ℕ) (keys reaches : List ℕ) (r : ℕ) → size ≡ length keys → Normal rd size j → Tables rd keys reaches → 2 ≤ b →
+    key-record : (size : ℕ) (keys reaches : List ℕ) (r : ℕ) → size ≡ length keys → Normal rd size j → Tables rd keys reaches → 2 ≤ b →
         r ≡ getD reaches (b - 1) 0 / 256 → r ≡ order (decoded rd j)
     unfolding decoded negationsOf bodyOf
     key-record size keys reaches r es normal tables h e =
@@ -98,3 +97,45 @@ module _ (rd : Reader) (j : ℕ) where
       where
         normal-plain : Normal rd size j → Plain (rd (b - 1) 0)
         normal-plain n = rw (← eb) at (n .plain (omega (arith, eb, h)))
+
+-- The ways out of `order_of`.
+module _ (reaches : List ℕ) (j : ℕ) where
+  pub in-none : j ≡ 0 → 0 ≡ orderIn reaches j
+  unfolding orderIn
+  in-none h = eq-yes j 0 0 _ 0 h refl
+
+  module _ (some : j ≡ 0 → ⊥) (b : ℕ) (eb : b ≡ j % 262144) where
+    pub in-sign : b < 2 → 1 ≡ orderIn reaches j
+    unfolding orderIn
+    in-sign h = eq-no j 0 0 _ 1 some (lt-yes (j % 262144) 2 1 _ 1 (omega arith) refl)
+
+    pub in-record : 2 ≤ b → (r : ℕ) → r ≡ getD reaches (b - 1) 0 / 256 → r ≡ orderIn reaches j
+    unfolding orderIn
+    in-record h r e = eq-no j 0 0 _ r some (lt-no (j % 262144) 2 1 _ r (omega arith) (rw (← eb) e))
+
+-- what the table has is the order of the key's tree
+order-in-is : (rd : Reader) (keys reaches : List ℕ) (j r : ℕ) → Tables rd keys reaches → Normal rd (length keys) j → r ≡ orderIn reaches j → r ≡ order (decoded rd j)
+order-in-is rd keys reaches j r tables normal e = by-none (eqb j 0) refl
+  where
+    by-body-of : (j ≡ 0 → ⊥) → (s : Bool) → ltb (j % 262144) 2 ≡ s → r ≡ order (decoded rd j)
+    by-body-of some true q =
+        let low : j % 262144 < 2 = ltb-true (j % 262144) 2 q in
+        e ∙ sym (in-sign reaches j some (j % 262144) refl low) ∙ key-sign rd j (j % 262144) refl some low
+    by-body-of some false q =
+        let high : 2 ≤ j % 262144 = ltb-false (j % 262144) 2 q in
+        e ∙ sym (in-record reaches j some (j % 262144) refl high _ refl) ∙ key-record rd j (j % 262144) refl (length keys) keys reaches _ refl normal tables high refl
+
+    by-none : (s : Bool) → eqb j 0 ≡ s → r ≡ order (decoded rd j)
+    by-none true q = let none : j ≡ 0 = eqb-true j 0 q in e ∙ sym (in-none reaches j none) ∙ key-none rd j none
+    by-none false q = by-body-of (eqb-false j 0 q) (ltb (j % 262144) 2) refl
+
+-- The way out of `last_part`: x, y and z are the keys of the parts, and a, b and c their orders.
+pub last-made : (rd : Reader) (keys reaches : List ℕ) (j x y z a b c r : ℕ) → Tables rd keys reaches →
+    Part rd (length keys) j x (partOf 1 (decoded rd j)) → a ≡ orderIn reaches x → Part rd (length keys) j y (partOf 2 (decoded rd j)) → b ≡ orderIn reaches y →
+    Part rd (length keys) j z (partOf 3 (decoded rd j)) → c ≡ orderIn reaches z → r ≡ largest a b c → r ≡ lastPart rd j
+unfolding lastPart
+last-made rd keys reaches j x y z a b c r tables px ea py eb pz ec er =
+    let first = order-in-is rd keys reaches x a tables (px .stands .normal) ea in
+    let second = order-in-is rd keys reaches y b tables (py .stands .normal) eb in
+    let third = order-in-is rd keys reaches z c tables (pz .stands .normal) ec in
+    rw (← px .stands .means, ← py .stands .means, ← pz .stands .means, ← first, ← second, ← third) er

@@ -9,8 +9,7 @@ ghost use Rattle.reader.specs.Words.{word};
 ghost use Rattle.reader.specs.Trees.{same};
 ghost use Rattle.reader.specs.Variables.{replaced};
 ghost use Rattle.derivation_trees.specs.Keys.{rank, decoded, Normal};
-ghost use Rattle.derivation_closedness.specs.Orders.{order};
-ghost use Rattle.derivation_replacement.specs.Last.{largest, lastPart};
+ghost use Rattle.derivation_replacement.specs.Last.{largest, orderIn, lastPart};
 ghost use Rattle.derivation_replacement.specs.Replaced.{Tables, fits, fitsPart, firstOther, secondOther, othersFit, indexKey, sameHeads, headsFit, partDepth};
 
 // Is the tree of key j the bound variable with index d?
@@ -78,17 +77,9 @@ fn part_depth(
     }
 }
 
-// The order of the tree of key j.
-fn order_of(
-    obligation: &[u8],
-    second: &[u8],
-    m: usize,
-    keys: &[usize],
-    reaches: &[u16],
-    j: usize,
-) -> usize
-    requires { ⌜ Tables (word (now obligation) (now second) m) (now keys) (now reaches) × Normal (word (now obligation) (now second) m) (length (now keys)) j ⌝ }
-    ensures { λ r. ⌜ r ≡ order (decoded (word (now (obligation .entry)) (now (second .entry)) m) j) ⌝ }
+// What the table has as the order of key j.
+fn order_of(reaches: &[u16], j: usize) -> usize
+    ensures { λ r. ⌜ r ≡ orderIn (now (reaches .entry)) j ⌝ }
 {
     if j == 0 {
         return 0;
@@ -122,12 +113,9 @@ fn last_part(
     requires { ⌜ Tables (word (now obligation) (now second) m) (now keys) (now reaches) × Normal (word (now obligation) (now second) m) (length (now keys)) j ⌝ }
     ensures { λ r. ⌜ (r ≡ lastPart (word (now (obligation .entry)) (now (second .entry)) m) j) × (0 < r) × (r < 4) ⌝ }
 {
-    let x = parts::part_of(obligation, second, m, keys, j, 1);
-    let a = order_of(obligation, second, m, keys, reaches, x);
-    let y = parts::part_of(obligation, second, m, keys, j, 2);
-    let b = order_of(obligation, second, m, keys, reaches, y);
-    let z = parts::part_of(obligation, second, m, keys, j, 3);
-    let c = order_of(obligation, second, m, keys, reaches, z);
+    let a = order_of(reaches, parts::part_of(obligation, second, m, keys, j, 1));
+    let b = order_of(reaches, parts::part_of(obligation, second, m, keys, j, 2));
+    let c = order_of(reaches, parts::part_of(obligation, second, m, keys, j, 3));
     largest_of(a, b, c)
 }
 
