@@ -7,7 +7,7 @@ use reader_instances::instances;
 use reader_instances::signatures;
 use reader_types::types;
 ghost use mathlib.Core.Path.{_≡_};
-ghost use Prim.Native.Nat.{_≤_};
+ghost use Prim.Native.Nat.{_≤_, min};
 ghost use lib.ListN.{length};
 ghost use Rattle.reader.specs.Words.{word};
 ghost use Rattle.reader.specs.Tests.{every};
@@ -22,7 +22,7 @@ ghost use Rattle.reader_typing.specs.Applications.{argumentsFit, signatu
 
 // The first n entries of a table, or all where it has fewer: how many they are.
 fn within(n: usize, length: usize) -> usize
-    ensures { λ r. ⌜ r ≤ length ⌝ }
+    ensures { λ r. ⌜ (r ≡ min n length) × (r ≤ length) ⌝ }
 {
     if n < length { n } else { length }
 }
