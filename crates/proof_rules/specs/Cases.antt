@@ -55,7 +55,7 @@ table =
     case1 (bytes (with 7 (r 2 83 0 0))) (answer 0 0 0 2) ∷  -- D7 record 7 is 2,83,0,0
     case1 (bytes (with 7 (r 2 99 1 0))) (answer 8 2 8 0) ∷  -- D8 record 7 is 2,99,1,0
     case1 (bytes (with 7 (r 2 35267 0 0))) (answer 0 0 0 2) ∷  -- D9 record 7 is 2,35267,0,0 (C3 89)
-    case1 (bytes (with 7 (r 2 8506437 0 0))) (answer 8 2 8 0) ∷  -- D10 record 7 is 2,8506437,0,0 (45 CC 81)
+    case1 (bytes (with 7 (r 2 8506437 0 0))) (answer 0 0 0 2) ∷  -- D10 record 7 is 2,8506437,0,0 (45 CC 81)
     case1 (take 15 (bytes proof1)) (answer 1 2 0 0) ∷  -- D11 proof of 15 bytes
     record { obligation = bytes obligation12; second = bytes proof12; answer = answer 16 2 17 1 } ∷ []  -- D12
 

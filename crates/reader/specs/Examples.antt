@@ -9,6 +9,7 @@ use Rattle.reader.specs.Kinds.{class, role, kindAt, classAt, roleAt, isR
 use Rattle.reader.specs.Trees.{lower, child, atom, treeStep, tree, kindOf, atomOf, firstOf, secondOf, thirdOf, sameHead, same}
 use Rattle.reader.specs.Chains.{linkedStep, linked, items, itemTrees, parts, premises}
 use Rattle.reader.specs.Weight.{isWeighed, ownWeight, weight}
+use Rattle.reader.specs.Accents.{letterIn, composed}
 use Rattle.reader.specs.Names.{nameOf, nameSpace, bytesOf, recordBytes, trimmed, nameBytes, isLetter, isDigitOrUnderscore, single, accented, characters}
 use Rattle.reader.specs.Names.{name, hasBytes, startsWell, isName, sameName, takenBelow, nameTaken}
 use Rattle.reader.specs.Variables.{binders, isIndex, replaced, bears, indexBelow, indicesBelow, typeVariableBelow, typesBelow, isClosed, isConstant, occurs, instance}
@@ -85,7 +86,7 @@ unfolding isWeighed ownWeight weight
 openWeight = 0
 
 unfoldable pub openNames1 : ℕ
-unfolding nameOf nameSpace bytesOf recordBytes trimmed nameBytes isLetter isDigitOrUnderscore single accented characters name hasBytes startsWell
+unfolding nameOf nameSpace bytesOf recordBytes trimmed nameBytes isLetter isDigitOrUnderscore single accented letterIn composed characters name hasBytes startsWell
 openNames1 = 0
 
 unfoldable pub openNames2 : ℕ

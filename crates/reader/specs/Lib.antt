@@ -5,6 +5,7 @@ pub mod Kinds
 pub mod Trees
 pub mod Chains
 pub mod Weight
+pub mod Accents
 pub mod Names
 pub mod Variables
 pub mod Typing
@@ -20,6 +21,8 @@ pub mod TestLaws
 pub mod DownLaws
 pub mod WordLaws
 pub mod KindLaws
+pub mod NameLaws
+pub mod AccentLaws
 pub mod TreeLaws
 pub mod SameLaws
 pub mod ChainLaws

@@ -7,6 +7,7 @@ use Rattle.reader.specs.Words.{Reader}
 use Rattle.reader.specs.Tests.{both, either, between, every, ifEq}
 use Rattle.reader.specs.Kinds.{kinds}
 use Rattle.reader.specs.Chains.{linked}
+use Rattle.reader.specs.Accents.{composed}
 
 -- the name record that a symbol names; 0 for a record that is no symbol
 unfoldable pub nameOf : Reader → ℕ → ℕ
@@ -56,11 +57,13 @@ single b = elim (either (isLetter b) (isDigitOrUnderscore b)) [ true ↦ b | fal
 unfoldable pub accented : ℕ → ℕ
 accented b = elim (both (between 128 191 b) (not (either (eqb b 151) (eqb b 183)))) [ true ↦ b + 64 | false ↦ 0 ]
 
--- The characters that bytes spell, 0 where they spell none. Two spellings of one character would have the same number.
+-- The characters that bytes spell, 0 where they spell none. CC is no character: it "may follow an ASCII letter", and then the two and its second byte are one.
 unfoldable pub characters : List ℕ → List ℕ
 characters [] = []
 characters (b ∷ []) = single b ∷ []
-characters (b ∷ c ∷ rest) = elim (eqb b 195) [ true ↦ accented c ∷ characters rest | false ↦ single b ∷ characters (c ∷ rest) ]
+characters (b ∷ c ∷ []) = ifEq b 195 (accented c ∷ []) (single b ∷ single c ∷ [])
+characters (b ∷ c ∷ d ∷ rest) =
+    ifEq b 195 (accented c ∷ characters (d ∷ rest)) (ifEq c 204 (composed b d ∷ characters rest) (single b ∷ characters (c ∷ d ∷ rest)))
 
 -- the characters of symbol i's name
 unfoldable pub name : Reader → ℕ → List ℕ

@@ -1,5 +1,5 @@
--- Laws of words past the end of a file.
-use Prim.Native.Nat.{ℕ, _+_, _*_, _<_, _≤_}
+-- Laws of words: past the end of a file, and how large they are.
+use Prim.Native.Nat.{ℕ, _+_, _*_, _-_, _<_, _≤_}
 use mathlib.Core.Path.{_≡_, refl, sym}
 use mathlib.Core.Bool.{Bool, true, false}
 use lib.Dec.{ltb}
@@ -7,7 +7,8 @@ use borrow.Author.Tests.{lt-ltb, le-ltb}
 use mathlib.Core.List.{List}
 use native.Mathlib.Omega.{arith}
 use lib.ListN.{length, getD, List·getD-eq-default}
-use Rattle.reader.specs.Words.{wordFrom, wordOf}
+use Rattle.reader.specs.Tests.{ifLt}
+use Rattle.reader.specs.Words.{le32, wordFrom, wordOf, through, word}
 
 -- past the end of a table
 pub past-end : (s : List ℕ) (k : ℕ) → length s ≤ k → 0 ≡ getD s k 0
@@ -37,3 +38,24 @@ word-past s i w h = go (ltb w 4)
     go : (b : Bool) → _≡_ {A = ℕ} (elim b [ true ↦ wordFrom s (16 * i + 4 * w) | false ↦ 0 ]) 0
     go true = from-past s (16 * i + 4 * w) (omega arith)
     go false = refl
+
+-- a word of two files of bytes
+bytes-small : (s : List ℕ) (i w : ℕ) → ((k : ℕ) → getD s k 0 < 256) → wordOf s i w < 4294967296
+unfolding wordOf wordFrom
+bytes-small s i w h = go (ltb w 4)
+  where
+    at : ℕ
+    at = 16 * i + 4 * w
+
+    go : (b : Bool) → elim b as (λ x. ℕ) [ true ↦ le32 (getD s at 0) (getD s (at + 1) 0) (getD s (at + 2) 0) (getD s (at + 3) 0) | false ↦ 0 ] < 4294967296
+    go true = omega (arith, h at, h (at + 1), h (at + 2), h (at + 3))
+    go false = omega arith
+
+pub word-small : (obligation second : List ℕ) (m i w : ℕ) → ((k : ℕ) → getD obligation k 0 < 256) → ((k : ℕ) → getD second k 0 < 256) →
+    word obligation second m i w < 4294967296
+unfolding word through ifLt
+word-small obligation second m i w h g = go (ltb m i)
+  where
+    go : (b : Bool) → elim b as (λ x. ℕ) [ true ↦ wordOf second (i - m) w | false ↦ wordOf obligation i w ] < 4294967296
+    go true = bytes-small second (i - m) w g
+    go false = bytes-small obligation i w h

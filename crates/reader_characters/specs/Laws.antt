@@ -1,22 +1,26 @@
--- Laws of the cursor.
-use Prim.Native.Nat.{ℕ, zero, suc, _+_, _*_, _-_, _<_, _≤_}
-use mathlib.Core.Path.{_≡_, refl, sym, _∙_}
+-- Laws of what is left of a name.
+use Prim.Native.Nat.{ℕ, zero, suc, _+_, _*_, _-_, _/_, _%_, _<_, _≤_}
+use mathlib.Core.Path.{_≡_, refl, sym, ap, _∙_}
 use mathlib.Core.List.{List, [], _∷_}
 use mathlib.Core.Bool.{Bool, true, false, false≢true}
 use lib.Dec.{eqb, eqb·suc-zero}
-use lib.ListN.{length, getD, length-append, drop-of-length-le, List·getD-eq-default}
-use lib.Seq.{drop-cons}
-use native.Mathlib.Numerals.{add-one}
+use lib.ListN.{length, getD, length-append}
 use native.Mathlib.Omega.{arith}
-use borrow.Author.Tests.{eq-eqb, ne-eqb, lt-ltb, le-ltb}
-use Rattle.reader.specs.Words.{Reader}
+use borrow.Author.Tests.{eq-eqb, ne-eqb, eqb-true, eqb-false}
+use Rattle.reader.specs.Words.{Reader, word}
+use Rattle.reader.specs.WordLaws.{word-small}
 use Rattle.reader.specs.Tests.{both, every, ifEq, ifLt, ifTrue}
 use Rattle.reader.specs.Trees.{lower}
 use Rattle.reader.specs.Chains.{linked}
 use Rattle.reader.specs.TreeLaws.{linked-zero, linked-step}
 use Rattle.reader.specs.Names.{bytesOf, recordBytes, trimmed, nameBytes}
+use Rattle.reader_view.specs.declared.Record.{Record}
+use Rattle.reader_view.specs.Records.{RecordIs}
 use Rattle.reader_characters.specs.declared.Step.{Step}
-use Rattle.reader_characters.specs.Cursor.{digit, byteAt, bytesFrom, isZero, zerosFrom, ended, leftBytes, restBytes, step, nothing, read}
+use Rattle.reader_characters.specs.Cursor.{digits, top, leftBytes, restBytes, Held, step, nothing, read, Left, FirstByte}
+
+isZero : ℕ → Bool
+isZero b = eqb b 0
 
 -- bytes without the zero bytes at their end
 cut : ℕ → List ℕ → List ℕ
@@ -78,43 +82,6 @@ bytes-most rd [] = omega arith
 bytes-most rd (i ∷ []) = omega (arith, trimmed-most (recordBytes rd i))
 bytes-most rd (i ∷ j ∷ is) = omega (arith, length-append (recordBytes rd i) (nameBytes rd (j ∷ is)), bytes-most rd (j ∷ is))
 
--- the bytes of a record, one by one
-bytes-more : (rd : Reader) (r t : ℕ) → t < 8 → bytesFrom rd r t ≡ byteAt rd r t ∷ bytesFrom rd r (t + 1)
-unfolding bytesFrom byteAt recordBytes bytesOf
-bytes-more rd r t h = rw (add-one, drop-cons (recordBytes rd r) t 0 h)
-
-bytes-none : (rd : Reader) (r t : ℕ) → 8 ≤ t → bytesFrom rd r t ≡ []
-unfolding bytesFrom recordBytes bytesOf
-bytes-none rd r t h = drop-of-length-le (recordBytes rd r) {i = t} h
-
--- one byte of a record, as a digit of a word
-word-digit : (v t : ℕ) (rest : List ℕ) → t < 4 → getD (bytesOf v rest) t 0 ≡ digit v t
-unfolding bytesOf digit ifEq
-word-digit v zero rest h = refl
-word-digit v (suc zero) rest h = refl
-word-digit v (suc (suc zero)) rest h = refl
-word-digit v (suc (suc (suc zero))) rest h = refl
-word-digit v (suc (suc (suc (suc t)))) rest h = absurd (omega arith)
-
-word-over : (v k : ℕ) (rest : List ℕ) → getD (bytesOf v rest) (suc (suc (suc (suc k)))) 0 ≡ getD rest k 0
-unfolding bytesOf
-word-over v k rest = refl
-
-module _ (rd : Reader) (r t v b : ℕ) where
-  pub byte-low : t < 4 → v ≡ rd r 1 → b ≡ digit v t → b ≡ byteAt rd r t
-  unfolding byteAt recordBytes
-  byte-low h e q = q ∙ sym (word-digit v t (bytesOf (rd r 2) []) h) ∙ rw e
-
-  pub byte-high : 4 ≤ t → t < 8 → v ≡ rd r 2 → b ≡ digit v (t - 4) → b ≡ byteAt rd r t
-  unfolding byteAt recordBytes
-  byte-high h k e q =
-      let four : t ≡ suc (suc (suc (suc (t - 4)))) = omega arith in
-      rw (four, word-over (rd r 1) (t - 4) (bytesOf (rd r 2) []), word-digit (rd r 2) (t - 4) [] (omega arith), ← e) q
-
-pub byte-past : (rd : Reader) (r t : ℕ) → 8 ≤ t → 0 ≡ byteAt rd r t
-unfolding byteAt recordBytes bytesOf
-byte-past rd r t h = sym (List·getD-eq-default (recordBytes rd r) 0 h)
-
 -- the bytes of a name that are left
 left-start : (rd : Reader) (i after : ℕ) → leftBytes rd after (recordBytes rd i) ≡ nameBytes rd (i ∷ linked rd after)
 unfolding leftBytes ifEq nameBytes
@@ -126,95 +93,160 @@ unfolding leftBytes ifEq nameBytes trimmed
 left-none rd zero = rw (linked-zero rd)
 left-none rd (suc a) = simp (ifEq, eqb·suc-zero a)
 
-left-end : (rd : Reader) (after : ℕ) (bs : List ℕ) → both (eqb after 0) (every isZero bs) ≡ true → leftBytes rd after bs ≡ []
-unfolding leftBytes ifEq both
-left-end rd zero bs e = trimmed-zeros bs e
-left-end rd (suc a) bs e = absurd (false≢true (simp (eqb·suc-zero a) at e))
-
 left-more : (rd : Reader) (after b : ℕ) (bs : List ℕ) → both (eqb after 0) (every isZero (b ∷ bs)) ≡ false → leftBytes rd after (b ∷ bs) ≡ b ∷ leftBytes rd after bs
 unfolding leftBytes ifEq both
 left-more rd zero b bs e = trimmed-more b bs e
 left-more rd (suc a) b bs e = simp (ifEq, eqb·suc-zero a)
 
-rest-left : (rd : Reader) (r t : ℕ) → (r ≡ 0 → ⊥) → t < 8 → restBytes rd r t ≡ leftBytes rd (lower rd r 3) (bytesFrom rd r t)
-unfolding restBytes ifEq ifLt
-rest-left rd r t p h = simp (ifEq, ifLt, ne-eqb r 0 p, lt-ltb t 8 h)
+-- Numbers of n bytes.
+digits-zero : (n : ℕ) → every isZero (digits n 0) ≡ true
+unfolding digits every isZero
+digits-zero zero = refl
+digits-zero (suc n) = digits-zero n
 
-pub rest-none : (rd : Reader) (t : ℕ) → restBytes rd 0 t ≡ []
-unfolding restBytes ifEq
-rest-none rd t = refl
+digits-some : (n v : ℕ) → v < top n → (v ≡ 0 → ⊥) → every isZero (digits n v) ≡ false
+unfolding digits top
+digits-some zero v h p = absurd (p (omega arith))
+digits-some (suc n) v h p = rw zeros-cons (go (eqb (v % 256) 0) refl (λ q. digits-some n (v / 256) (omega arith) q))
+  where
+    go : (z : Bool) → eqb (v % 256) 0 ≡ z → ((v / 256 ≡ 0 → ⊥) → every isZero (digits n (v / 256)) ≡ false) →
+        elim z as (λ x. Bool) [ true ↦ every isZero (digits n (v / 256)) | false ↦ false ] ≡ false
+    go true e rest = let low = eqb-true (v % 256) 0 e in rest (λ q. p (omega arith))
+    go false e rest = refl
 
-pub rest-start : (rd : Reader) (c : ℕ) → restBytes rd c 0 ≡ nameBytes rd (linked rd c)
-unfolding nameBytes bytesFrom
-rest-start rd zero = rest-none rd 0 ∙ rw (linked-zero rd)
-rest-start rd (suc c) =
-    rest-left rd (suc c) 0 (omega arith) (omega arith) ∙ left-start rd (suc c) (lower rd (suc c) 3) ∙ rw (linked-step rd (suc c) (omega arith))
+digits-next : (n v : ℕ) → 0 < n → digits n v ≡ v % 256 ∷ digits (n - 1) (v / 256)
+unfolding digits
+digits-next zero v h = absurd (omega arith)
+digits-next (suc n) v h = let one : suc n - 1 ≡ n = omega arith in rw one
 
--- The ways out of `only_zeros`.
-module _ (rd : Reader) (r t u : ℕ) (inv : zerosFrom rd r t ≡ zerosFrom rd r u) where
-  module _ (h : u < 8) (b : ℕ) (e : b ≡ byteAt rd r u) where
-    zeros-turn : zerosFrom rd r t ≡ elim (eqb b 0) [ true ↦ zerosFrom rd r (u + 1) | false ↦ false ]
-    unfolding zerosFrom
-    zeros-turn = inv ∙ rw (bytes-more rd r u h, zeros-cons, ← e)
+top-next : (n v : ℕ) → 0 < n → v < top n → v / 256 < top (n - 1)
+unfolding top
+top-next zero v h k = absurd (omega arith)
+top-next (suc n) v h k = let one : suc n - 1 ≡ n = omega arith in rw one (omega arith)
 
-    pub zeros-stop : (b ≡ 0 → ⊥) → false ≡ zerosFrom rd r t
-    zeros-stop p = rw zeros-turn (simp (ne-eqb b 0 p))
+-- the 8 bytes of a record, as one number
+record-digits : (rd : Reader) (r a b : ℕ) → a ≡ rd r 1 → b ≡ rd r 2 → a < 4294967296 → digits 8 (a + 4294967296 * b) ≡ recordBytes rd r
+unfolding digits recordBytes bytesOf
+record-digits rd r a b ea eb small =
+    let v0 : (a + 4294967296 * b) / 256 ≡ a / 256 + 16777216 * b = omega arith in
+    let v1 : (a / 256 + 16777216 * b) / 256 ≡ a / 65536 + 65536 * b = omega arith in
+    let v2 : (a / 65536 + 65536 * b) / 256 ≡ a / 16777216 + 256 * b = omega arith in
+    let v3 : (a / 16777216 + 256 * b) / 256 ≡ b = omega arith in
+    let d0 : (a + 4294967296 * b) % 256 ≡ a % 256 = omega arith in
+    let d1 : (a / 256 + 16777216 * b) % 256 ≡ a / 256 % 256 = omega arith in
+    let d2 : (a / 65536 + 65536 * b) % 256 ≡ a / 65536 % 256 = omega arith in
+    let d3 : (a / 16777216 + 256 * b) % 256 ≡ a / 16777216 % 256 = omega arith in
+    let b2 : b / 256 / 256 ≡ b / 65536 = omega arith in
+    let b3 : b / 65536 / 256 ≡ b / 16777216 = omega arith in
+    rw (v0, v1, v2, v3, d0, d1, d2, d3, b2, b3, ea, eb)
 
-    pub zeros-go : b ≡ 0 → zerosFrom rd r t ≡ zerosFrom rd r (u + 1)
-    zeros-go p = zeros-turn ∙ simp (eq-eqb b 0 p)
+-- What `fetched` gives: words of files of bytes.
+pub words-small : (obligation second : List ℕ) (m r : ℕ) (x : Record) → RecordIs (word obligation second m) r x →
+    ((k : ℕ) → getD obligation k 0 < 256) → ((k : ℕ) → getD second k 0 < 256) →
+    RecordIs (word obligation second m) r x × (x .a < 4294967296) × (x .b < 4294967296)
+words-small obligation second m r x is h g =
+    (is, omega (arith, is .a-is, word-small obligation second m r 1 h g), omega (arith, is .b-is, word-small obligation second m r 2 h g))
 
-  pub zeros-end : 8 ≤ u → true ≡ zerosFrom rd r t
-  unfolding zerosFrom every
-  zeros-end h = rw (inv, bytes-none rd r u h)
+nothing-held : Held nothing
+unfolding top
+nothing-held = record { fits = omega arith; some = λ p. absurd (p refl) }
+
+-- The ways out of `start`.
+pub start-none : (rd : Reader) (r : ℕ) (s : Step) → s ≡ nothing → r ≡ 0 → Left rd (nameBytes rd (linked rd r)) s
+unfolding restBytes leftBytes ifEq digits trimmed top nameBytes
+start-none rd r s e z = record { left = rw (e, z, linked-zero rd); held = rw e nothing-held }
+
+pub start-some : (rd : Reader) (r : ℕ) → (r ≡ 0 → ⊥) → (x : Record) → RecordIs rd r x → x .a < 4294967296 → x .b < 4294967296 →
+    (after : ℕ) → after ≡ ifLt (x .c) r (x .c) 0 →
+    Left rd (nameBytes rd (linked rd r)) (step false 0 (x .a + 4294967296 * x .b) 8 after)
+unfolding restBytes lower top
+start-some rd r p x is sa sb after e =
+    let is-lower : after ≡ lower rd r 3 = e ∙ ap (λ (c : ℕ). ifLt c r c 0) (is .c-is) in
+    record {
+      left =
+          ap (leftBytes rd after) (record-digits rd r (x .a) (x .b) (is .a-is) (is .b-is) sa) ∙ left-start rd r after ∙
+          rw (is-lower, linked-step rd r (omega arith));
+      held = record { fits = omega arith; some = λ q. omega arith };
+    }
+
+-- Nothing is left, or a byte.
+rest-none : (rd : Reader) (s : Step) → s .bytes ≡ 0 → s .after ≡ 0 → restBytes rd s ≡ []
+unfolding restBytes leftBytes ifEq
+rest-none rd s z e = rw (z, e) (trimmed-zeros (digits (s .count) 0) (digits-zero (s .count)))
+
+count-some : (s : Step) → Held s → (a z : Bool) → eqb (s .after) 0 ≡ a → eqb (s .bytes) 0 ≡ z → both a z ≡ false → 0 < s .count
+unfolding both top
+count-some s h true true ea ez k = absurd (false≢true (sym k))
+count-some s h true false ea ez k = go (s .count) (h .fits)
+  where
+    go : (n : ℕ) → s .bytes < top n → 0 < n
+    go zero l = absurd (eqb-false (s .bytes) 0 ez (omega arith))
+    go (suc n) l = omega arith
+count-some s h false z ea ez k = h .some (eqb-false (s .after) 0 ea)
+
+module _ (rd : Reader) (s : Step) (h : Held s) where
+  -- the byte that is left, and those after it
+  rest-some : (a z : Bool) → eqb (s .after) 0 ≡ a → eqb (s .bytes) 0 ≡ z → both a z ≡ false →
+      restBytes rd s ≡ s .bytes % 256 ∷ leftBytes rd (s .after) (digits (s .count - 1) (s .bytes / 256))
+  unfolding restBytes both
+  rest-some true true ea ez k = absurd (false≢true (sym k))
+  rest-some true false ea ez k =
+      let bytes = digits-next (s .count) (s .bytes) (count-some s h true false ea ez k) in
+      let some = digits-some (s .count) (s .bytes) (h .fits) (eqb-false (s .bytes) 0 ez) in
+      ap (leftBytes rd (s .after)) bytes ∙ left-more rd (s .after) _ _ (rw (← bytes) (simp (both, ea) some))
+  rest-some false z ea ez k =
+      ap (leftBytes rd (s .after)) (digits-next (s .count) (s .bytes) (count-some s h false z ea ez k)) ∙ left-more rd (s .after) _ _ (simp (both, ea))
+
+  -- the byte that is left, 0 for none
+  pub peek : s .bytes % 256 ≡ getD (restBytes rd s) 0 0
+  unfolding both
+  peek = go (eqb (s .after) 0) refl (eqb (s .bytes) 0) refl
+    where
+      go : (a : Bool) → eqb (s .after) 0 ≡ a → (z : Bool) → eqb (s .bytes) 0 ≡ z → s .bytes % 256 ≡ getD (restBytes rd s) 0 0
+      go true ea true ez = let z = eqb-true (s .bytes) 0 ez in rw (rest-none rd s z (eqb-true (s .after) 0 ea), z)
+      go true ea false ez = rw (rest-some true false ea ez refl)
+      go false ea z ez = rw (rest-some false z ea ez refl)
 
 -- The ways out of `is_end`.
-module _ (rd : Reader) (r t b : ℕ) (h : t < 8) (e : b ≡ byteAt rd r t) where
-  pub end-byte : (b ≡ 0 → ⊥) → false ≡ ended rd r t
-  unfolding ended both
-  end-byte p = go (eqb (lower rd r 3) 0)
+module _ (s : Step) where
+  pub end-record : (s .after ≡ 0 → ⊥) → false ≡ both (eqb (s .after) 0) (eqb (s .bytes) 0)
+  unfolding both
+  end-record p = simp (both, ne-eqb (s .after) 0 p)
+
+  pub end-bytes : s .after ≡ 0 → eqb (s .bytes) 0 ≡ both (eqb (s .after) 0) (eqb (s .bytes) 0)
+  unfolding both
+  end-bytes p = simp (both, eq-eqb (s .after) 0 p)
+
+pub count-more : (s : Step) → Held s → (e : Bool) → e ≡ both (eqb (s .after) 0) (eqb (s .bytes) 0) → e ≡ false → 1 ≤ s .count
+count-more s h e ee y = count-some s h (eqb (s .after) 0) (eqb (s .bytes) 0) refl refl (sym ee ∙ y)
+
+-- The ways out of `next_byte`; `e` says whether no byte is left behind s.
+module _ (rd : Reader) (s : Step) (h : Held s) (e : Bool) (ee : e ≡ both (eqb (s .after) 0) (eqb (s .bytes) 0)) where
+  pub byte-none : e ≡ true → (u : Step) → u ≡ nothing → FirstByte rd (restBytes rd s) u
+  unfolding read ifTrue both
+  byte-none y u eu = record { first = rw eu (sym (go (eqb (s .after) 0) refl (sym ee ∙ y))); held = rw eu nothing-held }
     where
-      go : (x : Bool) → false ≡ both x (zerosFrom rd r t)
-      go true = zeros-stop rd r t t refl h b e p
-      go false = refl
+      go : (a : Bool) → eqb (s .after) 0 ≡ a → both a (eqb (s .bytes) 0) ≡ true → restBytes rd s ≡ []
+      go true ea k = rest-none rd s (eqb-true (s .bytes) 0 k) (eqb-true (s .after) 0 ea)
+      go false ea k = absurd (false≢true k)
 
-  pub end-record : (a : ℕ) → a ≡ lower rd r 3 → (a ≡ 0 → ⊥) → false ≡ ended rd r t
-  unfolding ended both
-  end-record a q p = simp (ended, both, ← q, ne-eqb a 0 p)
+  module _ (y : e ≡ false) where
+    rest-is : restBytes rd s ≡ s .bytes % 256 ∷ leftBytes rd (s .after) (digits (s .count - 1) (s .bytes / 256))
+    rest-is = rest-some rd s h (eqb (s .after) 0) (eqb (s .bytes) 0) refl refl (sym ee ∙ y)
 
-  pub end-zeros : (a : ℕ) (z : Bool) → a ≡ lower rd r 3 → a ≡ 0 → z ≡ zerosFrom rd r t → z ≡ ended rd r t
-  unfolding ended both
-  end-zeros a z q p k = simp (ended, both, ← q, eq-eqb a 0 p) k
+    pub byte-more : (s .count ≡ 1 → ⊥) → FirstByte rd (restBytes rd s) (step true (s .bytes % 256) (s .bytes / 256) (s .count - 1) (s .after))
+    unfolding read ifTrue restBytes
+    byte-more n = record {
+      first = sym rest-is;
+      held = record { fits = top-next (s .count) (s .bytes) (count-more s h e ee y) (h .fits); some = λ p. omega (arith, count-more s h e ee y) };
+    }
 
--- The ways out of `next_byte`.
-module _ (rd : Reader) (r t : ℕ) (s : Step) (es : s ≡ nothing) where
-  read-nothing : read rd s ≡ []
-  unfolding read ifTrue
-  read-nothing = rw es
-
-  pub byte-none : r ≡ 0 → read rd s ≡ restBytes rd r t
-  byte-none p = read-nothing ∙ rw (p, rest-none rd t)
-
-  module _ (p : r ≡ 0 → ⊥) where
-    pub byte-over : 8 ≤ t → read rd s ≡ restBytes rd r t
-    unfolding restBytes ifEq ifLt
-    byte-over h = read-nothing ∙ simp (ifEq, ifLt, ne-eqb r 0 p, le-ltb t 8 h)
-
-    pub byte-end : (x : Bool) → t < 8 → x ≡ ended rd r t → x ≡ true → read rd s ≡ restBytes rd r t
-    unfolding ended zerosFrom
-    byte-end x h q y = read-nothing ∙ sym (rest-left rd r t p h ∙ left-end rd _ _ (sym q ∙ y))
-
-module _ (rd : Reader) (r t b : ℕ) (x : Bool) (p : r ≡ 0 → ⊥) (h : t < 8) (e : b ≡ byteAt rd r t) (q : x ≡ ended rd r t) (y : x ≡ false) where
-  rest-more : restBytes rd r t ≡ b ∷ leftBytes rd (lower rd r 3) (bytesFrom rd r (t + 1))
-  unfolding ended zerosFrom
-  rest-more =
-      let more = bytes-more rd r t h in
-      let not-end : both (eqb (lower rd r 3) 0) (every isZero (byteAt rd r t ∷ bytesFrom rd r (t + 1))) ≡ false = rw more at (sym q ∙ y) in
-      rest-left rd r t p h ∙ rw (more, left-more rd _ _ _ not-end, ← e)
-
-  pub byte-more : t < 7 → read rd (step true b r (t + 1)) ≡ restBytes rd r t
-  unfolding read ifTrue
-  byte-more l = rw (rest-more, rest-left rd r (t + 1) p (omega arith))
-
-  pub byte-last : 7 ≤ t → (a : ℕ) → a ≡ lower rd r 3 → read rd (step true b a 0) ≡ restBytes rd r t
-  unfolding read ifTrue
-  byte-last l a k = rw (rest-more, rest-start rd a, bytes-none rd r (t + 1) (omega arith), left-none, k)
+    pub byte-last : s .count ≡ 1 → (u : Step) → Left rd (nameBytes rd (linked rd (s .after))) u →
+        FirstByte rd (restBytes rd s) (step true (s .bytes % 256) (u .bytes) (u .count) (u .after))
+    unfolding read ifTrue restBytes digits
+    byte-last one u l =
+        let last : restBytes rd s ≡ s .bytes % 256 ∷ leftBytes rd (s .after) [] = rest-is ∙ rw one in
+        record {
+          first = sym (last ∙ ap (λ (bs : List ℕ). s .bytes % 256 ∷ bs) (left-none rd (s .after) ∙ sym (l .left)));
+          held = record { fits = l .held .fits; some = l .held .some };
+        }

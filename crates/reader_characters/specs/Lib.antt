@@ -1,3 +1,4 @@
 pub mod Cursor
 pub mod Laws
 pub mod Spelling
+pub mod Composing

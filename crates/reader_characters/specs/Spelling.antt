@@ -1,18 +1,21 @@
 -- Laws of the characters of a name: the ways out of the code that reads them.
-use Prim.Native.Nat.{ℕ, _+_, _<_, _≤_}
-use mathlib.Core.Path.{_≡_, refl, sym, _∙_}
+use Prim.Native.Nat.{ℕ, _+_, _%_, _<_, _≤_}
+use mathlib.Core.Path.{_≡_, refl, sym, ap, _∙_}
 use mathlib.Core.List.{List, [], _∷_}
 use mathlib.Core.Bool.{Bool, true, false, not, false≢true}
 use lib.Dec.{eqb, ltb, leb}
-use lib.ListN.{length}
+use lib.ListN.{length, getD}
 use native.Mathlib.Omega.{arith}
 use borrow.Author.Tests.{eq-eqb, ne-eqb, leb-true, not-true, not-false}
 use Rattle.reader.specs.Words.{Reader}
 use Rattle.reader.specs.Tests.{both, either, between, every, ifLt, ifTrue}
-use Rattle.reader.specs.Names.{isLetter, isDigitOrUnderscore, single, accented, characters, startsWell}
+use Rattle.reader.specs.Chains.{linked}
+use Rattle.reader.specs.Names.{nameBytes, isLetter, isDigitOrUnderscore, single, accented, characters, startsWell}
+use Rattle.reader.specs.Accents.{composed}
+use Rattle.reader.specs.NameLaws.{spell-pair, spell-half, spell-marked, spell-cut, spell-single}
 use Rattle.reader_characters.specs.declared.Step.{Step}
-use Rattle.reader_characters.specs.Cursor.{restBytes, step, read, spelled, isSpelled}
-use Rattle.reader_characters.specs.Laws.{rest-none}
+use Rattle.reader_characters.specs.Cursor.{restBytes, Held, step, read, spelled, Left, FirstByte, FirstCharacter, isSpelled}
+use Rattle.reader_characters.specs.Laws.{peek}
 
 -- `if r { return true; }`
 pub either-stop : (a b r : Bool) → r ≡ a → r ≡ true → true ≡ either a b
@@ -77,7 +80,7 @@ module _ (rd : Reader) (s : Step) where
   unfolding read ifTrue
   read-none h = simp (read, ifTrue, h)
 
-  read-more : s .more ≡ true → read rd s ≡ s .value ∷ restBytes rd (s .at) (s .offset)
+  read-more : s .more ≡ true → read rd s ≡ s .value ∷ restBytes rd s
   unfolding read ifTrue
   read-more h = simp (read, ifTrue, h)
 
@@ -85,58 +88,96 @@ module _ (rd : Reader) (s : Step) where
   unfolding spelled ifTrue
   spelled-none h = simp (spelled, ifTrue, h)
 
-  pub spelled-more : s .more ≡ true → spelled rd s ≡ s .value ∷ characters (restBytes rd (s .at) (s .offset))
+  pub spelled-more : s .more ≡ true → spelled rd s ≡ s .value ∷ characters (restBytes rd s)
   unfolding spelled ifTrue
   spelled-more h = simp (spelled, ifTrue, h)
 
-pub spell-two : (b c : ℕ) (bs : List ℕ) →
-    characters (b ∷ c ∷ bs) ≡ elim (eqb b 195) [ true ↦ accented c ∷ characters bs | false ↦ single b ∷ characters (c ∷ bs) ]
-unfolding characters
-spell-two b c bs = refl
+-- a character c, and behind it what is left behind s
+before : (rd : Reader) (s u : Step) (c : ℕ) (cs : List ℕ) → u ≡ step true c (s .bytes) (s .count) (s .after) → Held s → c ∷ characters (restBytes rd s) ≡ cs →
+    FirstCharacter rd cs u
+unfolding spelled ifTrue restBytes
+before rd s u c cs eu h e = rw eu (record { first = e; held = record { fits = h .fits; some = h .some } })
 
-spell-single : (b : ℕ) (bs : List ℕ) → (b ≡ 195 → ⊥) → characters (b ∷ bs) ≡ single b ∷ characters bs
-unfolding characters
-spell-single b [] n = refl
-spell-single b (c ∷ bs) n = rw spell-two (simp (ne-eqb b 195 n))
-
-spell-half : (b : ℕ) → b ≡ 195 → characters (b ∷ []) ≡ 0 ∷ []
-unfolding characters single either isLetter isDigitOrUnderscore between ifLt
-spell-half b e = rw e
-
-spell-pair : (b c : ℕ) (bs : List ℕ) → b ≡ 195 → characters (b ∷ c ∷ bs) ≡ accented c ∷ characters bs
-unfolding characters
-spell-pair b c bs e = rw e
-
--- The ways out of `next_character`.
-module _ (rd : Reader) (r t : ℕ) (s : Step) (es : read rd s ≡ restBytes rd r t) where
-  pub character-none : not (s .more) ≡ true → spelled rd s ≡ characters (restBytes rd r t)
+-- The ways out of `accented_character`; s has read C3, and l the byte behind it.
+module _ (rd : Reader) (s l : Step) (h : Held s) (el : FirstByte rd (restBytes rd s) l) where
+  pub accented-half : not (l .more) ≡ true → (u : Step) → u ≡ step true 0 (s .bytes) (s .count) (s .after) → FirstCharacter rd (characters (195 ∷ restBytes rd s)) u
   unfolding characters
-  character-none h = rw (← es, read-none rd s (not-true _ h), spelled-none rd s (not-true _ h))
+  accented-half k u eu =
+      let none = sym (el .first) ∙ read-none rd l (not-true _ k) in
+      before rd s u 0 _ eu h (rw (none, spell-half 195 refl))
 
-  module _ (h : not (s .more) ≡ false) where
-    rest-is : restBytes rd r t ≡ s .value ∷ restBytes rd (s .at) (s .offset)
-    rest-is = sym es ∙ read-more rd s (not-false _ h)
+  pub accented-pair : not (l .more) ≡ false → (c : ℕ) → c ≡ accented (l .value) →
+      (u : Step) → u ≡ step true c (l .bytes) (l .count) (l .after) → FirstCharacter rd (characters (195 ∷ restBytes rd s)) u
+  accented-pair k c e u eu =
+      let more = sym (el .first) ∙ read-more rd l (not-false _ k) in
+      before rd l u c _ eu (el .held) (rw (more, spell-pair 195 (l .value) (restBytes rd l) refl, e))
 
-    pub character-single : (s .value ≡ 195 → ⊥) → (c : ℕ) → c ≡ single (s .value) → spelled rd (step true c (s .at) (s .offset)) ≡ characters (restBytes rd r t)
-    unfolding spelled ifTrue
-    character-single n c e = rw (rest-is, spell-single _ _ n, ← e)
+-- The ways out of `marked_character`; s has read the byte before the mark, k has read CC, and l the byte behind it.
+module _ (rd : Reader) (s k l : Step) (h : Held s) (n : s .value ≡ 195 → ⊥) (ahead : getD (restBytes rd s) 0 0 ≡ 204)
+    (ek : FirstByte rd (restBytes rd s) k) (el : FirstByte rd (restBytes rd k) l) where
+  mark-rest : restBytes rd s ≡ 204 ∷ restBytes rd k
+  mark-rest = go (k .more) refl
+    where
+      first : List ℕ → ℕ
+      first bs = getD bs 0 0
 
-    module _ (p : s .value ≡ 195) (u : Step) (eu : read rd u ≡ restBytes rd (s .at) (s .offset)) where
-      pub character-half : not (u .more) ≡ true → spelled rd (step true 0 0 0) ≡ characters (restBytes rd r t)
-      unfolding spelled ifTrue characters
-      character-half k = rw (rest-is, ← eu, read-none rd u (not-true _ k), spell-half _ p, rest-none rd 0)
+      go : (x : Bool) → k .more ≡ x → restBytes rd s ≡ 204 ∷ restBytes rd k
+      go true m = let is = sym (ek .first) ∙ read-more rd k m in is ∙ ap (λ (v : ℕ). v ∷ restBytes rd k) (sym (ap first is) ∙ ahead)
+      go false m = let is = sym ahead ∙ ap first (sym (ek .first) ∙ read-none rd k m) in absurd (omega arith)
 
-      pub character-pair : not (u .more) ≡ false → (c : ℕ) → c ≡ accented (u .value) → spelled rd (step true c (u .at) (u .offset)) ≡ characters (restBytes rd r t)
-      unfolding spelled ifTrue
-      character-pair k c e = rw (rest-is, ← eu, read-more rd u (not-false _ k), spell-pair _ _ _ p, ← e)
+  pub marked-cut : not (l .more) ≡ true → (c : ℕ) → c ≡ single (s .value) →
+      (u : Step) → u ≡ step true c (s .bytes) (s .count) (s .after) → FirstCharacter rd (characters (s .value ∷ restBytes rd s)) u
+  marked-cut m c e u eu =
+      let none = mark-rest ∙ ap (λ (bs : List ℕ). 204 ∷ bs) (sym (el .first) ∙ read-none rd l (not-true _ m)) in
+      before rd s u c _ eu h (rw (none, spell-cut (s .value) 204 n, e))
+
+  pub marked-whole : not (l .more) ≡ false → (c : ℕ) → c ≡ composed (s .value) (l .value) →
+      (u : Step) → u ≡ step true c (l .bytes) (l .count) (l .after) → FirstCharacter rd (characters (s .value ∷ restBytes rd s)) u
+  marked-whole m c e u eu =
+      let more = mark-rest ∙ ap (λ (bs : List ℕ). 204 ∷ bs) (sym (el .first) ∙ read-more rd l (not-false _ m)) in
+      before rd l u c _ eu (el .held) (rw (more, spell-marked (s .value) 204 (l .value) (restBytes rd l) n refl, e))
+
+-- The ways out of `next_character`; f has read its first byte.
+module _ (rd : Reader) (s f : Step) (ef : FirstByte rd (restBytes rd s) f) where
+  pub character-none : not (f .more) ≡ true → FirstCharacter rd (characters (restBytes rd s)) f
+  unfolding characters
+  character-none h = record { first = rw (← ef .first, read-none rd f (not-true _ h), spelled-none rd f (not-true _ h)); held = ef .held }
+
+  -- a mark is ahead
+  pub mark-ahead : f .bytes % 256 ≡ 204 → getD (restBytes rd f) 0 0 ≡ 204
+  mark-ahead p = sym (peek rd f (ef .held)) ∙ p
+
+  module _ (h : not (f .more) ≡ false) where
+    rest-is : restBytes rd s ≡ f .value ∷ restBytes rd f
+    rest-is = sym (ef .first) ∙ read-more rd f (not-false _ h)
+
+    pub character-accented : f .value ≡ 195 → (u : Step) → FirstCharacter rd (characters (195 ∷ restBytes rd f)) u → FirstCharacter rd (characters (restBytes rd s)) u
+    character-accented p u eu = record {
+      first = eu .first ∙ ap characters (ap (λ (v : ℕ). v ∷ restBytes rd f) (sym p) ∙ sym rest-is);
+      held = eu .held;
+    }
+
+    pub character-marked : (u : Step) → FirstCharacter rd (characters (f .value ∷ restBytes rd f)) u → FirstCharacter rd (characters (restBytes rd s)) u
+    character-marked u eu = record { first = eu .first ∙ ap characters (sym rest-is); held = eu .held }
+
+    pub character-single : (f .value ≡ 195 → ⊥) → (f .bytes % 256 ≡ 204 → ⊥) → (c : ℕ) → c ≡ single (f .value) →
+        (u : Step) → u ≡ step true c (f .bytes) (f .count) (f .after) → FirstCharacter rd (characters (restBytes rd s)) u
+    character-single n k c e u eu =
+        let alone = spell-single (f .value) (restBytes rd f) n (λ q. k (peek rd f (ef .held) ∙ q)) in
+        before rd f u c _ eu (ef .held) (rw (rest-is, alone, e))
 
 -- One turn of a loop over characters: s was read, and u after it.
-module _ (rd : Reader) (s u : Step) (h : s .more ≡ true) (eu : spelled rd u ≡ characters (restBytes rd (s .at) (s .offset))) where
+module _ (rd : Reader) (s u : Step) (h : s .more ≡ true) (eu : FirstCharacter rd (characters (restBytes rd s)) u) where
   pub spelled-next : spelled rd s ≡ s .value ∷ spelled rd u
-  spelled-next = spelled-more rd s h ∙ rw eu
+  spelled-next = spelled-more rd s h ∙ rw (eu .first)
 
   pub spelled-falls : length (spelled rd u) < length (spelled rd s)
   spelled-falls = rw spelled-next (omega arith)
+
+-- the first character of a name, behind the step b before it
+pub spelled-name : (rd : Reader) (first : ℕ) (b s : Step) → Left rd (nameBytes rd (linked rd first)) b → FirstCharacter rd (characters (restBytes rd b)) s →
+    spelled rd s ≡ characters (nameBytes rd (linked rd first))
+spelled-name rd first b s eb es = es .first ∙ ap characters (eb .left)
 
 pub is-spelled-cons : (c : ℕ) (cs : List ℕ) → isSpelled (c ∷ cs) ≡ elim (not (eqb c 0)) [ true ↦ isSpelled cs | false ↦ false ]
 unfolding isSpelled every
@@ -155,7 +196,7 @@ module _ (rd : Reader) (cs : List ℕ) (s : Step) where
   spelled-stop inv h p = rw (inv, spelled-more rd s h, is-spelled-cons) (simp (eq-eqb _ 0 p))
 
   pub spelled-go : isSpelled cs ≡ isSpelled (spelled rd s) → s .more ≡ true → (s .value ≡ 0 → ⊥) →
-      (u : Step) → spelled rd u ≡ characters (restBytes rd (s .at) (s .offset)) → isSpelled cs ≡ isSpelled (spelled rd u)
+      (u : Step) → FirstCharacter rd (characters (restBytes rd s)) u → isSpelled cs ≡ isSpelled (spelled rd u)
   spelled-go inv h p u eu = inv ∙ rw (spelled-next rd s u h eu, is-spelled-cons) (simp (ne-eqb _ 0 p))
 
   pub starts-none : spelled rd s ≡ cs → not (s .more) ≡ true → false ≡ startsWell cs

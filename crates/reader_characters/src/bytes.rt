@@ -1,106 +1,94 @@
-// The bytes of a name, read one by one from a cursor.
+// The bytes of a name, read one by one; a record is fetched once for its 8 bytes.
 use crate::Step;
+use reader_view::Record;
+use reader_view::views;
 ghost use mathlib.Core.Path.{_≡_};
 ghost use Prim.Native.Nat.{_<_};
+ghost use lib.Dec.{eqb};
 ghost use Rattle.reader.specs.Words.{word};
-ghost use Rattle.reader_characters.specs.Cursor.{digit, byteAt, zerosFrom, ended, restBytes, nothing, read};
+ghost use Rattle.reader.specs.Tests.{both, ifLt};
+ghost use Rattle.reader.specs.Chains.{linked};
+ghost use Rattle.reader.specs.Names.{nameBytes};
+ghost use Rattle.reader_view.specs.Records.{RecordIs};
+ghost use Rattle.reader_characters.specs.Cursor.{restBytes, Held, nothing, Left, FirstByte};
 
-// Byte k, 0 to 3, of a word.
-fn digit_of(v: usize, k: usize) -> usize
-    ensures { λ r. ⌜ r ≡ digit v k ⌝ }
-{
-    if k == 0 {
-        return v % 256;
-    }
-    if k == 1 {
-        return v / 256 % 256;
-    }
-    if k == 2 {
-        return v / 65536 % 256;
-    }
-    v / 16777216 % 256
-}
-
-// Byte t of name record r; 0 past its 8.
-fn byte_of(obligation: &[u8], second: &[u8], m: usize, r: usize, t: usize) -> usize
-    ensures { λ b. ⌜ b ≡ byteAt (word (now (obligation .entry)) (now (second .entry)) m) r t ⌝ }
-{
-    if t < 4 {
-        return digit_of(reader::words::word_at(obligation, second, m, r, 1), t);
-    }
-    if t < 8 {
-        return digit_of(reader::words::word_at(obligation, second, m, r, 2), t - 4);
-    }
-    0
-}
-
-// Are the bytes of record r from offset t on all zero?
-fn only_zeros(obligation: &[u8], second: &[u8], m: usize, r: usize, t: usize) -> bool
-    ensures { λ z. ⌜ z ≡ zerosFrom (word (now (obligation .entry)) (now (second .entry)) m) r t ⌝ }
-{
-    let mut u = t;
-    while u < 8 {
-        if byte_of(obligation, second, m, r, u) != 0 {
-            return false;
-        }
-        u += 1;
-    }
-    true
-}
-
-// Is no byte of the name left at record r, offset t, where the byte is b? Most bytes are not 0, and then no other is looked at.
-fn is_end(obligation: &[u8], second: &[u8], m: usize, r: usize, t: usize, b: usize) -> bool
-    requires { ⌜ (t < 8) × (b ≡ byteAt (word (now obligation) (now second) m) r t) ⌝ }
-    ensures { λ e. ⌜ e ≡ ended (word (now (obligation .entry)) (now (second .entry)) m) r t ⌝ }
-{
-    if b != 0 {
-        return false;
-    }
-    if reader::trees::lower_at(obligation, second, m, r, 3) != 0 {
-        return false;
-    }
-    only_zeros(obligation, second, m, r, t)
-}
-
-// Nothing was read.
+// Nothing was read, and nothing is left.
 fn none() -> Step
     ensures { λ s. ⌜ s ≡ nothing ⌝ }
 {
     Step {
         more: false,
         value: 0,
-        at: 0,
-        offset: 0,
+        bytes: 0,
+        count: 0,
+        after: 0,
     }
 }
 
-// The byte of a name at record r, offset t, and the cursor behind it.
-pub fn next_byte(obligation: &[u8], second: &[u8], m: usize, r: usize, t: usize) -> Step
-    ensures { λ s. ⌜ read (word (now (obligation .entry)) (now (second .entry)) m) s ≡ restBytes (word (now (obligation .entry)) (now (second .entry)) m) r t ⌝ }
+// The record that a word c of record r refers to, 0 where it is no reference to a smaller one.
+fn smaller(c: usize, r: usize) -> usize
+    ensures { λ x. ⌜ x ≡ ifLt c r c 0 ⌝ }
+{
+    if c < r { c } else { 0 }
+}
+
+// Record r; its words are no larger than words.
+fn fetched(obligation: &[u8], second: &[u8], m: usize, r: usize) -> Record
+    ensures { λ x. ⌜ RecordIs (word (now (obligation .entry)) (now (second .entry)) m) r x × (x .a < 4294967296) × (x .b < 4294967296) ⌝ }
+{
+    views::record_of(obligation, second, m, r)
+}
+
+// The step before the first byte of the name whose first record is r.
+pub fn start(obligation: &[u8], second: &[u8], m: usize, r: usize) -> Step
+    ensures { λ s. ⌜ Left (word (now (obligation .entry)) (now (second .entry)) m) (nameBytes (word (now (obligation .entry)) (now (second .entry)) m) (linked (word (now (obligation .entry)) (now (second .entry)) m) r)) s ⌝ }
 {
     if r == 0 {
         return none();
     }
-    if 8 <= t {
+    let x = fetched(obligation, second, m, r);
+    Step {
+        more: false,
+        value: 0,
+        bytes: x.a + 4294967296 * x.b,
+        count: 8,
+        after: smaller(x.c, r),
+    }
+}
+
+// Is no byte left behind a step? The zero bytes that end a name are none.
+fn is_end(s: Step) -> bool
+    ensures { λ e. ⌜ e ≡ both (eqb (s .after) 0) (eqb (s .bytes) 0) ⌝ }
+{
+    if s.after != 0 {
+        return false;
+    }
+    s.bytes == 0
+}
+
+// The byte of a name behind a step.
+pub fn next_byte(obligation: &[u8], second: &[u8], m: usize, s: Step) -> Step
+    requires { ⌜ Held s ⌝ }
+    ensures { λ u. ⌜ FirstByte (word (now (obligation .entry)) (now (second .entry)) m) (restBytes (word (now (obligation .entry)) (now (second .entry)) m) s) u ⌝ }
+{
+    if is_end(s) {
         return none();
     }
-    let b = byte_of(obligation, second, m, r, t);
-    if is_end(obligation, second, m, r, t, b) {
-        return none();
-    }
-    if t < 7 {
+    if s.count != 1 {
         return Step {
             more: true,
-            value: b,
-            at: r,
-            offset: t + 1,
+            value: s.bytes % 256,
+            bytes: s.bytes / 256,
+            count: s.count - 1,
+            after: s.after,
         };
     }
-    let after = reader::trees::lower_at(obligation, second, m, r, 3);
+    let follows = start(obligation, second, m, s.after);
     Step {
         more: true,
-        value: b,
-        at: after,
-        offset: 0,
+        value: s.bytes % 256,
+        bytes: follows.bytes,
+        count: follows.count,
+        after: follows.after,
     }
 }

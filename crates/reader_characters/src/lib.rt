@@ -1,11 +1,14 @@
 // The bytes of a name through its records, and the characters that they spell.
+pub mod accents;
 pub mod bytes;
 pub mod characters;
 
-// What was read, where there was `more`: a byte or a character, and the cursor behind it, a record of the name and an offset in its bytes.
+// What was read, where there was `more`: a byte or a character. Behind it are left `count` bytes of a record, as one number, the low byte first, and the records
+// from `after` on.
 pub struct Step {
     pub more: bool,
     pub value: usize,
-    pub at: usize,
-    pub offset: usize,
+    pub bytes: usize,
+    pub count: usize,
+    pub after: usize,
 }

@@ -8,7 +8,7 @@ use lib.ListN.{length, getD, set}
 use lib.Seq.{getD-set-same, getD-set-other}
 use native.Mathlib.Omega.{arith}
 use borrow.Author.Tests.{ltb-true, ltb-false, eq-eqb, ne-eqb, lt-ltb, le-ltb}
-use Rattle.reader.specs.Words.{Reader, le32, wordFrom, wordOf, through, word}
+use Rattle.reader.specs.Words.{Reader}
 use Rattle.reader.specs.Tests.{ifEq, ifLt, ifTrue}
 use Rattle.reader.specs.Kinds.{role, isNumber, isSymbol}
 use Rattle.reader.specs.Trees.{child, atom, tree}
@@ -62,27 +62,6 @@ module _ (types : Bool) (k y : ℕ) where
     pub under-binder : k ≡ 19 → y - 1 ≡ y - crossed types k
     unfolding crossed binders ifTrue
     under-binder h = simp (crossed, binders, ifTrue, index, eq-eqb k 19 h)
-
--- a word of two files of bytes
-bytes-small : (s : List ℕ) (i w : ℕ) → ((k : ℕ) → getD s k 0 < 256) → wordOf s i w < 4294967296
-unfolding wordOf wordFrom
-bytes-small s i w h = go (ltb w 4)
-  where
-    at : ℕ
-    at = 16 * i + 4 * w
-
-    go : (b : Bool) → elim b as (λ x. ℕ) [ true ↦ le32 (getD s at 0) (getD s (at + 1) 0) (getD s (at + 2) 0) (getD s (at + 3) 0) | false ↦ 0 ] < 4294967296
-    go true = omega (arith, h at, h (at + 1), h (at + 2), h (at + 3))
-    go false = omega arith
-
-pub word-small : (obligation second : List ℕ) (m i w : ℕ) → ((k : ℕ) → getD obligation k 0 < 256) → ((k : ℕ) → getD second k 0 < 256) →
-    word obligation second m i w < 4294967296
-unfolding word through ifLt
-word-small obligation second m i w h g = go (ltb m i)
-  where
-    go : (b : Bool) → elim b as (λ x. ℕ) [ true ↦ wordOf second (i - m) w | false ↦ wordOf obligation i w ] < 4294967296
-    go true = bytes-small second (i - m) w g
-    go false = bytes-small obligation i w h
 
 pub variable-type : (types : Bool) → types ≡ true → 6 ≡ variable types
 unfolding variable ifTrue

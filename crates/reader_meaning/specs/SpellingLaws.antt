@@ -1,22 +1,26 @@
 -- A symbol has a good name exactly where the test of its name passes, and a name of its own exactly where it is not taken.
-use Prim.Native.Nat.{ℕ, zero, suc, _+_, _<_, _≤_}
+use Prim.Native.Nat.{ℕ, zero, suc, _+_, _-_, _<_, _≤_}
 use mathlib.Core.Path.{_≡_, refl, sym, ap, subst, _∙_}
-use mathlib.Core.List.{List, [], _∷_}
+use mathlib.Core.List.{List, [], _∷_, _++_}
 use mathlib.Core.Bool.{Bool, true, false, not, false≢true}
 use mathlib.Core.Logic.{_⊎_, inl, inr, ⊎-elim}
 use lib.Dec.{eqb}
+use lib.ListN.{getD}
 use native.Mathlib.Omega.{arith}
-use borrow.Author.Tests.{eq-eqb, ne-eqb, eqb-true, eqb-false, not-true}
+use borrow.Author.Tests.{eq-eqb, ne-eqb, eqb-true, not-true}
 use Rattle.reader.specs.Words.{Reader}
 use Rattle.reader.specs.Tests.{both, either, between, ifEq, ifTrue}
 use Rattle.reader.specs.Chains.{linked}
+use Rattle.reader.specs.Accents.{decompositions, composed}
+use Rattle.reader.specs.NameLaws.{spell-pair, spell-marked, spell-single, Spells, spells}
+use Rattle.reader.specs.AccentLaws.{ascii-letters, letters-large, unicode-letters, no-other, composed-large, both-spellings}
 use Rattle.reader.specs.Names.{nameOf, nameSpace, nameBytes, isLetter, isDigitOrUnderscore, single, accented, characters}
 use Rattle.reader.specs.Names.{name, hasBytes, startsWell, isName, sameName, takenBelow, nameTaken}
-use Rattle.reader_laws.specs.Scan.{both-parts, both-join, either-parts, between-parts, when-true, when-false, when-equal, when-different}
+use Rattle.reader_laws.specs.Scan.{both-parts, both-join, either-parts, between-parts, when-true, when-false}
 use Rattle.reader_laws.specs.Record.{smaller-name-differs}
 use Rattle.reader.specs.Notions.{here, there, Every}
 use Rattle.reader_laws.specs.NotionLaws.{every-0, every-more, every-in, every-out, not-so, failed, either-first, either-second}
-use Rattle.reader_meaning.specs.Spelling.{Letter, DigitOrUnderscore, Accented, Spelled, SpelledName, GoodName, ConstantOrFunction, Symbol}
+use Rattle.reader_meaning.specs.Spelling.{Letter, DigitOrUnderscore, Accented, Marked, Spelled, SpelledName, GoodName, ConstantOrFunction, Symbol}
 use Rattle.reader_meaning.specs.TableLaws.{between-out}
 
 -- bytes
@@ -103,59 +107,105 @@ accented-out b c a =
     not-so (either (eqb c 151) (eqb c 183)) (λ h. either-parts (eqb c 151) _ h (λ e. a .notTimes (eqb-true c 151 e)) (λ e. a .notDivided (eqb-true c 183 e))) in
     accented-is c ∙ when-true (c + 64) 0 _ (both-join _ _ (between-out 128 191 c (a .low) (a .high)) (rw none))
 
--- characters one by one
-char-is : (b c : ℕ) (bs : List ℕ) → characters (b ∷ c ∷ bs) ≡ ifEq b 195 (accented c ∷ characters bs) (single b ∷ characters (c ∷ bs))
-unfolding characters ifEq
-char-is b c bs = refl
+-- characters of three bytes
+marked-in : (b c d : ℕ) → c ≡ 204 → (composed b d ≡ 0 → ⊥) → Marked b c d
+marked-in b c d e h = record { first = e; letter = composed b d; decomposed = no-other b d h }
 
-char-one : (b : ℕ) (bs : List ℕ) → (b ≡ 195 → ⊥) → characters (b ∷ bs) ≡ single b ∷ characters bs
-unfolding characters
-char-one b [] h = refl
-char-one b (c ∷ bs) h = char-is b c bs ∙ when-different _ _ b 195 h
+module _ {b c d : ℕ} (m : Marked b c d) where
+  marked-letter : composed b d ≡ m .letter
+  marked-letter = unicode-letters _ (m .decomposed)
 
-char-two : (b c : ℕ) (bs : List ℕ) → b ≡ 195 → characters (b ∷ c ∷ bs) ≡ accented c ∷ characters bs
-char-two b c bs h = char-is b c bs ∙ when-equal _ _ b 195 h
+  marked-some : composed b d ≡ 0 → ⊥
+  marked-some z = omega (arith, marked-letter, letters-large _ (m .decomposed))
+
+  -- the byte before a mark is no C3 and no CC
+  marked-base : Letter b
+  marked-base = letter-in b (ascii-letters _ (m .decomposed))
 
 -- no character is missing
 abbrev Found : List ℕ → Type 0
 Found cs = Every (λ c. c ≡ 0 → ⊥) cs
+
+-- no character begins with CC
+no-mark-first : {bs : List ℕ} → Spelled bs → getD bs 0 0 ≡ 204 → ⊥
+no-mark-first Spelled.end e = omega arith
+no-mark-first (Spelled.letter l s) e = let r = letter-range l in omega arith
+no-mark-first (Spelled.digit-or-underscore m s) e = let r = mark-range m in omega arith
+no-mark-first (Spelled.accented a s) e = let k = a .first in omega arith
+no-mark-first (Spelled.marked m s) e = let r = letter-range (marked-base m) in omega arith
+
+char-one : (b : ℕ) (bs : List ℕ) → b ≤ 194 → Spelled bs → characters (b ∷ bs) ≡ single b ∷ characters bs
+char-one b bs h s = spell-single b bs (λ e. omega arith) (no-mark-first s)
+
+char-three : {b c d : ℕ} (bs : List ℕ) → Marked b c d → characters (b ∷ c ∷ d ∷ bs) ≡ composed b d ∷ characters bs
+char-three {b} {c} {d} bs m = let r = letter-range (marked-base m) in spell-marked b c d bs (λ e. omega arith) (m .first)
 
 spelled-out : {bs : List ℕ} → Spelled bs → Found (characters bs)
 unfolding characters
 spelled-out Spelled.end = every-0 (λ c. c ≡ 0 → ⊥)
 spelled-out (Spelled.letter {b = b} {bs = bs} l s) =
     let r = letter-range l in
-    subst Found (sym (char-one b bs (λ e. omega arith)))
+    subst Found (sym (char-one b bs (r .1) s))
     (every-more (λ c. c ≡ 0 → ⊥) (single b) (characters bs) (λ z. let q : single b ≡ b = single-letter b l in omega arith) (spelled-out s))
 spelled-out (Spelled.digit-or-underscore {b = b} {bs = bs} m s) =
     let r = mark-range m in
-    subst Found (sym (char-one b bs (λ e. omega arith)))
+    subst Found (sym (char-one b bs (r .1) s))
     (every-more (λ c. c ≡ 0 → ⊥) (single b) (characters bs) (λ z. let q : single b ≡ b = single-mark b m in omega arith) (spelled-out s))
 spelled-out (Spelled.accented {b = b} {c = c} {bs = bs} a s) =
-    subst Found (sym (char-two b c bs (a .first)))
+    subst Found (sym (spell-pair b c bs (a .first)))
     (every-more (λ c. c ≡ 0 → ⊥) (accented c) (characters bs) (λ z. let q : accented c ≡ c + 64 = accented-out b c a in omega arith) (spelled-out s))
+spelled-out (Spelled.marked {b = b} {d = d} {bs = bs} m s) =
+    subst Found (sym (char-three bs m)) (every-more (λ c. c ≡ 0 → ⊥) (composed b d) (characters bs) (marked-some m) (spelled-out s))
+
+-- Bytes with the same characters have them after other characters too.
+first-of : (front bs : List ℕ) → (getD front 0 0 ≡ 204 → ⊥) → (getD bs 0 0 ≡ 204 → ⊥) → getD (front ++ bs) 0 0 ≡ 204 → ⊥
+first-of [] bs p q e = q e
+first-of (a ∷ front) bs p q e = p e
+
+after-one : (b : ℕ) {front : List ℕ} → b ≤ 194 → Spelled front → (bs cs : List ℕ) → (getD bs 0 0 ≡ 204 → ⊥) → (getD cs 0 0 ≡ 204 → ⊥) →
+    characters (front ++ bs) ≡ characters (front ++ cs) → characters (b ∷ (front ++ bs)) ≡ characters (b ∷ (front ++ cs))
+after-one b {front} r s bs cs p q e =
+    let one : (ds : List ℕ) → (getD ds 0 0 ≡ 204 → ⊥) → characters (b ∷ (front ++ ds)) ≡ single b ∷ characters (front ++ ds) =
+    λ ds n. spell-single b (front ++ ds) (λ k. omega arith) (first-of front ds (no-mark-first s) n) in
+    one bs p ∙ ap (λ (ds : List ℕ). single b ∷ ds) e ∙ sym (one cs q)
+
+spelled-after : {front : List ℕ} → Spelled front → (bs cs : List ℕ) → (getD bs 0 0 ≡ 204 → ⊥) → (getD cs 0 0 ≡ 204 → ⊥) → characters bs ≡ characters cs →
+    characters (front ++ bs) ≡ characters (front ++ cs)
+spelled-after Spelled.end bs cs p q e = e
+spelled-after (Spelled.letter {b = b} {bs = front} l s) bs cs p q e =
+    after-one b (letter-range l .1) s bs cs p q (spelled-after s bs cs p q e)
+spelled-after (Spelled.digit-or-underscore {b = b} {bs = front} m s) bs cs p q e =
+    after-one b (mark-range m .1) s bs cs p q (spelled-after s bs cs p q e)
+spelled-after (Spelled.accented {b = b} {c = c} {bs = front} a s) bs cs p q e =
+    spell-pair b c (front ++ bs) (a .first) ∙ ap (λ (ds : List ℕ). accented c ∷ ds) (spelled-after s bs cs p q e) ∙ sym (spell-pair b c (front ++ cs) (a .first))
+spelled-after (Spelled.marked {b = b} {d = d} {bs = front} m s) bs cs p q e =
+    char-three (front ++ bs) m ∙ ap (λ (ds : List ℕ). composed b d ∷ ds) (spelled-after s bs cs p q e) ∙ sym (char-three (front ++ cs) m)
+
+-- "Names count as taken by characters": wherever in a name a letter stands, both of its spellings give the name the same characters.
+pub either-spelling : {front : List ℕ} → Spelled front →
+    Every (λ x. (rest : List ℕ) → characters (front ++ (x .base ∷ 204 ∷ x .mark ∷ rest)) ≡ characters (front ++ (195 ∷ (x .letter - 64) ∷ rest))) decompositions
+either-spelling s x m rest =
+    let r = letter-range (letter-in (x .base) (ascii-letters x m)) in
+    spelled-after s _ _ (λ e. omega arith) (λ e. omega arith) (both-spellings x m rest)
 
 -- what the first character, and the rest, give
 one-in : (b : ℕ) (bs : List ℕ) → (single b ≡ 0 → ⊥) → Spelled bs → Spelled (b ∷ bs)
 one-in b bs h s = ⊎-elim (λ l. Spelled.letter l s) (λ m. Spelled.digit-or-underscore m s) (single-in b h)
 
-two-in : (b c : ℕ) (bs : List ℕ) → b ≡ 195 → (accented c ≡ 0 → ⊥) → Accented b c
-two-in b c bs e h = rw e (accented-in c h)
+two-in : (b c : ℕ) → b ≡ 195 → (accented c ≡ 0 → ⊥) → Accented b c
+two-in b c e h = rw e (accented-in c h)
 
-spelled-in : (bs : List ℕ) → Found (characters bs) → Spelled bs
-unfolding characters
-spelled-in [] h = Spelled.end
-spelled-in (b ∷ []) h = one-in b [] (h (single b) (here refl)) Spelled.end
-spelled-in (b ∷ c ∷ bs) h = go (eqb b 195) refl (spelled-in bs) (spelled-in (c ∷ bs))
-  where
-    go : (v : Bool) → eqb b 195 ≡ v → (Found (characters bs) → Spelled bs) → (Found (characters (c ∷ bs)) → Spelled (c ∷ bs)) → Spelled (b ∷ c ∷ bs)
-    go true e two one =
-        let k = eqb-true b 195 e in
-        let g = subst Found (char-two b c bs k) h in
-        Spelled.accented (two-in b c bs k (g (accented c) (here refl))) (two (λ x m. g x (there m)))
-    go false e two one =
-        let g = subst Found (char-one b (c ∷ bs) (eqb-false b 195 e)) h in
-        one-in b (c ∷ bs) (g (single b) (here refl)) (one (λ x m. g x (there m)))
+spelled-in : {bs : List ℕ} → Spells bs → Found (characters bs) → Spelled bs
+spelled-in Spells.none h = Spelled.end
+spelled-in (Spells.one {b = b} {bs = bs} e s) h =
+    let g = subst Found e h in
+    one-in b bs (g (single b) (here refl)) (spelled-in s (λ x m. g x (there m)))
+spelled-in (Spells.pair {b = b} {c = c} p e s) h =
+    let g = subst Found e h in
+    Spelled.accented (two-in b c p (g (accented c) (here refl))) (spelled-in s (λ x m. g x (there m)))
+spelled-in (Spells.marked {b = b} {c = c} {d = d} p e s) h =
+    let g = subst Found e h in
+    Spelled.marked (marked-in b c d p (g (composed b d) (here refl))) (spelled-in s (λ x m. g x (there m)))
 
 -- the first character
 name-in : {bs : List ℕ} → Spelled bs → startsWell (characters bs) ≡ true → SpelledName bs
@@ -163,31 +213,36 @@ unfolding characters startsWell
 name-in Spelled.end w = absurd (false≢true w)
 name-in (Spelled.letter l s) w = SpelledName.letter l s
 name-in (Spelled.accented a s) w = SpelledName.accented a s
+name-in (Spelled.marked m s) w = SpelledName.marked m s
 name-in (Spelled.digit-or-underscore {b = b} {bs = bs} m s) w =
     let r = mark-range m in
-    let e : characters (b ∷ bs) ≡ b ∷ characters bs = char-one b bs (λ z. omega arith) ∙ ap (λ (c : ℕ). c ∷ characters bs) (single-mark b m) in
+    let e : characters (b ∷ bs) ≡ b ∷ characters bs = char-one b bs (r .1) s ∙ ap (λ (c : ℕ). c ∷ characters bs) (single-mark b m) in
     let v : not (isDigitOrUnderscore b) ≡ true = ap startsWell (sym e) ∙ w in
     failed (isDigitOrUnderscore b) (not-true _ v) (mark-out m)
 
 all-spelled : {bs : List ℕ} → SpelledName bs → Spelled bs
 all-spelled (SpelledName.letter l s) = Spelled.letter l s
 all-spelled (SpelledName.accented a s) = Spelled.accented a s
+all-spelled (SpelledName.marked m s) = Spelled.marked m s
+
+-- a letter U+00C0 to U+00FF is no digit and no underscore
+large-only : (c : ℕ) → 192 ≤ c → DigitOrUnderscore c → ⊥
+large-only c low (DigitOrUnderscore.digit p q) = omega arith
+large-only c low (DigitOrUnderscore.underscore e) = omega arith
+
+starts-with : (ds : List ℕ) (c : ℕ) (cs : List ℕ) → ds ≡ c ∷ cs → (DigitOrUnderscore c → ⊥) → startsWell ds ≡ true
+unfolding startsWell
+starts-with ds c cs e no-digit = ap startsWell e ∙ rw (not-so (isDigitOrUnderscore c) (λ h. no-digit (mark-in c h)))
 
 starts : {bs : List ℕ} → SpelledName bs → startsWell (characters bs) ≡ true
-unfolding startsWell
 starts (SpelledName.letter {b = b} {bs = bs} l s) =
     let r = letter-range l in
-    let e : characters (b ∷ bs) ≡ b ∷ characters bs = char-one b bs (λ z. omega arith) ∙ ap (λ (c : ℕ). c ∷ characters bs) (single-letter b l) in
-    ap startsWell e ∙ rw (not-so (isDigitOrUnderscore b) (λ h. letter-only l (mark-in b h)))
+    starts-with _ b (characters bs) (char-one b bs (r .1) s ∙ ap (λ (c : ℕ). c ∷ characters bs) (single-letter b l)) (letter-only l)
 starts (SpelledName.accented {b = b} {c = c} {bs = bs} a s) =
-    let e : characters (b ∷ c ∷ bs) ≡ (c + 64) ∷ characters bs =
-    char-two b c bs (a .first) ∙ ap (λ (d : ℕ). d ∷ characters bs) (accented-out b c a) in
-    ap startsWell e
-    ∙ rw (not-so (isDigitOrUnderscore (c + 64)) (λ h. past c (a .low) (mark-in (c + 64) h)))
-  where
-    past : (c : ℕ) → 128 ≤ c → DigitOrUnderscore (c + 64) → ⊥
-    past c low (DigitOrUnderscore.digit p q) = omega arith
-    past c low (DigitOrUnderscore.underscore e) = omega arith
+    starts-with _ (c + 64) (characters bs) (spell-pair b c bs (a .first) ∙ ap (λ (d : ℕ). d ∷ characters bs) (accented-out b c a))
+    (large-only (c + 64) (omega (arith, a .low)))
+starts (SpelledName.marked {b = b} {d = d} {bs = bs} m s) =
+    starts-with _ (composed b d) (characters bs) (char-three bs m) (large-only (composed b d) (composed-large b d (marked-some m)))
 
 -- a record of a name that is not empty
 bytes-in : (rd : Reader) (j : ℕ) → hasBytes rd j ≡ true → rd j 1 ≡ 0 → rd j 2 ≡ 0 → ⊥
@@ -209,7 +264,7 @@ good-in rd i h =
     let found : Found (name rd i) = every-in (λ c. not (eqb c 0)) (λ c. c ≡ 0 → ⊥) given (name rd i) (q .0) in
     record {
       noneEmpty = every-in (hasBytes rd) (λ j. rd j 1 ≡ 0 → rd j 2 ≡ 0 → ⊥) (bytes-in rd) _ (p .0);
-      spelled = name-in (spelled-in (nameBytes rd (linked rd (nameOf rd i))) found) (q .1);
+      spelled = name-in (spelled-in (spells (nameBytes rd (linked rd (nameOf rd i)))) found) (q .1);
     }
 
 pub good-out : (rd : Reader) (i : ℕ) → GoodName rd i → isName rd i ≡ true

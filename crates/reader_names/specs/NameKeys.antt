@@ -9,13 +9,17 @@ use native.Mathlib.Omega.{arith}
 use borrow.Author.Tests.{eq-eqb, ne-eqb, eqb-true, eqb-false, lt-ltb, ltb-true, not-true, not-false}
 use Rattle.reader.specs.Words.{Reader}
 use Rattle.reader.specs.Tests.{both, either, between, every, ifEq}
+use Rattle.reader.specs.Chains.{linked}
 use Rattle.reader.specs.Names.{nameOf, nameSpace, nameBytes, isLetter, isDigitOrUnderscore, single, accented, characters, name}
+use Rattle.reader.specs.Accents.{composed}
+use Rattle.reader.specs.AccentLaws.{composed-small}
+use Rattle.reader.specs.NameLaws.{Spells, spells}
 use Rattle.reader.specs.TreeLaws.{linked-zero}
 use Rattle.reader_equality.specs.declared.Key.{Key}
 use Rattle.reader_equality.specs.Keys.{key}
 use Rattle.reader_characters.specs.declared.Step.{Step}
-use Rattle.reader_characters.specs.Cursor.{restBytes, spelled}
-use Rattle.reader_characters.specs.Spelling.{between-most, spell-two, spelled-none, spelled-more, spelled-next}
+use Rattle.reader_characters.specs.Cursor.{restBytes, spelled, Left, FirstCharacter}
+use Rattle.reader_characters.specs.Spelling.{between-most, spelled-none, spelled-more, spelled-next, spelled-name}
 use Rattle.reader_names.specs.Symbols.{name-from}
 
 -- no key: of a record that is no symbol, and of a name with no characters, with one that is none, or with more than the numbers hold
@@ -227,16 +231,16 @@ small-more : (c : ℕ) (cs : List ℕ) → c < 256 → every isSmall cs ≡ true
 unfolding isSmall
 small-more c cs p h = rw small-cons (simp (isSmall, lt-ltb c 256 p, h))
 
-characters-small : (bs : List ℕ) → every isSmall (characters bs) ≡ true
+spells-small : {bs : List ℕ} → Spells bs → every isSmall (characters bs) ≡ true
 unfolding characters every
-characters-small [] = refl
-characters-small (b ∷ []) = small-more (single b) [] (single-small b) refl
-characters-small (b ∷ c ∷ bs) = rw spell-two (go (eqb b 195) (characters-small bs) (characters-small (c ∷ bs)))
-  where
-    go : (x : Bool) → every isSmall (characters bs) ≡ true → every isSmall (characters (c ∷ bs)) ≡ true →
-        every isSmall (elim x as (λ z. List ℕ) [ true ↦ accented c ∷ characters bs | false ↦ single b ∷ characters (c ∷ bs) ]) ≡ true
-    go true f g = small-more (accented c) (characters bs) (accented-small c) f
-    go false f g = small-more (single b) (characters (c ∷ bs)) (single-small b) g
+spells-small Spells.none = refl
+spells-small (Spells.one {b = b} {bs = bs} e s) = rw e (small-more (single b) (characters bs) (single-small b) (spells-small s))
+spells-small (Spells.pair {c = c} {bs = bs} p e s) = rw e (small-more (accented c) (characters bs) (accented-small c) (spells-small s))
+spells-small (Spells.marked {b = b} {d = d} {bs = bs} p e s) =
+    rw e (small-more (composed b d) (characters bs) (omega (arith, composed-small b d)) (spells-small s))
+
+characters-small : (bs : List ℕ) → every isSmall (characters bs) ≡ true
+characters-small bs = spells-small (spells bs)
 
 pub name-small : (rd : Reader) (i : ℕ) → every isSmall (name rd i) ≡ true
 unfolding name
@@ -276,13 +280,13 @@ module _ (rd : Reader) (i : ℕ) where
   unfolding nameKey name nameBytes characters spread ifEq
   key-nameless first r ef z e = e ∙ rw (← ef, z, linked-zero rd) refl
 
-  pub key-start : (w space first : ℕ) (k : Key) (s : Step) → w ≡ rd i 0 → space ≡ nameSpace w → k ≡ spaceKey space → first ≡ nameOf rd i →
-      spelled rd s ≡ characters (restBytes rd first 0) → nameKey rd i ≡ spread k (spelled rd s)
+  pub key-start : (w space first : ℕ) (k : Key) (b s : Step) → w ≡ rd i 0 → space ≡ nameSpace w → k ≡ spaceKey space → first ≡ nameOf rd i →
+      Left rd (nameBytes rd (linked rd first)) b → FirstCharacter rd (characters (restBytes rd b)) s → nameKey rd i ≡ spread k (spelled rd s)
   unfolding nameKey
-  key-start w space first k s ew es ek ef e = rw (ek, es, ew, e, name-from rd i first ef)
+  key-start w space first k b s ew es ek ef eb e = rw (ek, es, ew, spelled-name rd first b s eb e, name-from rd i first ef)
 
-  pub step-small : (r t : ℕ) (s : Step) → spelled rd s ≡ characters (restBytes rd r t) → every isSmall (spelled rd s) ≡ true
-  step-small r t s e = rw e (characters-small _)
+  pub step-small : (b s : Step) → FirstCharacter rd (characters (restBytes rd b)) s → every isSmall (spelled rd s) ≡ true
+  step-small b s e = rw (e .first) (characters-small _)
 
   module _ (k : Key) (s : Step) (inv : nameKey rd i ≡ spread k (spelled rd s)) where
     module _ (more : s .more ≡ true) where
@@ -293,7 +297,7 @@ module _ (rd : Reader) (i : ℕ) where
         pub key-stop : not room ≡ true → (r : Key) → r ≡ spaceKey 0 → r ≡ nameKey rd i
         key-stop h r e = e ∙ spread-stop k (s .value) _ (sym er ∙ not-true room h) ∙ sym (inv ∙ ap (spread k) (spelled-more rd s more))
 
-        pub key-go : not room ≡ false → (l : Key) → l ≡ dealt k (s .value) → (u : Step) → spelled rd u ≡ characters (restBytes rd (s .at) (s .offset)) →
+        pub key-go : not room ≡ false → (l : Key) → l ≡ dealt k (s .value) → (u : Step) → FirstCharacter rd (characters (restBytes rd s)) u →
             nameKey rd i ≡ spread l (spelled rd u)
         key-go h l el u eu = inv ∙ rw (spelled-next rd s u more eu, el) (spread-go k (s .value) (spelled rd u) (sym er ∙ not-false room h))
 

@@ -11,12 +11,13 @@ use Rattle.reader.specs.Words.{Reader}
 use Rattle.reader.specs.Tests.{both, every, ifEq}
 use Rattle.reader.specs.Chains.{linked}
 use Rattle.reader.specs.TreeLaws.{linked-zero}
-use Rattle.reader.specs.Names.{nameOf, nameSpace, nameBytes, accented, single, characters, name, hasBytes, startsWell, isName}
+use Rattle.reader.specs.Names.{nameOf, nameSpace, nameBytes, characters, name, hasBytes, startsWell, isName}
 use Rattle.reader.specs.Records.{nameLengthFits, nameSpelled}
 use Rattle.reader_equality.specs.declared.Key.{Key}
 use Rattle.reader_characters.specs.Cursor.{isSpelled}
 use Rattle.reader_characters.specs.Laws.{bytes-most}
-use Rattle.reader_characters.specs.Spelling.{is-spelled-cons, spell-two}
+use Rattle.reader_characters.specs.Spelling.{is-spelled-cons}
+use Rattle.reader.specs.NameLaws.{Spells, spells}
 use Rattle.reader_names.specs.NameKeys.{spaceKey, hasRoom, dealt, mixed, spread, nameKey, isSmall, spread-go, spread-all, small-first, small-rest, name-small}
 
 -- the numbers that have room for n digits more
@@ -113,22 +114,18 @@ deal-all (suc n) k (c ∷ d ∷ e ∷ f ∷ cs) room h few some p =
     )
     (deal-all n four cs below (other-characters f cs hf) (omega arith) (omega (arith, pf .some)) p)
 
-characters-most : (bs : List ℕ) → length (characters bs) ≤ length bs
+spells-most : {bs : List ℕ} → Spells bs → length (characters bs) ≤ length bs
 unfolding characters
-characters-most [] = omega arith
-characters-most (b ∷ []) = omega arith
-characters-most (b ∷ c ∷ bs) = rw spell-two (go (eqb b 195) (characters-most bs) (characters-most (c ∷ bs)))
-  where
-    go : (x : Bool) → length (characters bs) ≤ length bs → length (characters (c ∷ bs)) ≤ length (c ∷ bs) →
-        length {A = ℕ} (elim x as (λ z. List ℕ) [ true ↦ accented c ∷ characters bs | false ↦ single b ∷ characters (c ∷ bs) ]) ≤ suc (suc (length bs))
-    go true f g = omega arith
-    go false f g = omega arith
+spells-most Spells.none = omega arith
+spells-most (Spells.one e s) = rw e (omega (arith, spells-most s))
+spells-most (Spells.pair p e s) = rw e (omega (arith, spells-most s))
+spells-most (Spells.marked p e s) = rw e (omega (arith, spells-most s))
 
 name-most : (rd : Reader) (i : ℕ) → length (name rd i) ≤ 8 * length (linked rd (nameOf rd i))
 unfolding name
 name-most rd i =
     let bytes = nameBytes rd (linked rd (nameOf rd i)) in
-    omega (arith, characters-most bytes, bytes-most rd (linked rd (nameOf rd i)))
+    omega (arith, spells-most (spells bytes), bytes-most rd (linked rd (nameOf rd i)))
 
 -- a record that names one is a symbol
 named-space : (rd : Reader) (i : ℕ) → (nameOf rd i ≡ 0 → ⊥) → 0 < nameSpace (rd i 0) % 4

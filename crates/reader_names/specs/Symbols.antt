@@ -12,10 +12,9 @@ use Rattle.reader.specs.Tests.{both, every}
 use Rattle.reader.specs.Trees.{lower}
 use Rattle.reader.specs.Chains.{linked}
 use Rattle.reader.specs.TreeLaws.{linked-zero, linked-step}
-use Rattle.reader.specs.Names.{nameOf, characters, name, hasBytes, startsWell, isName}
+use Rattle.reader.specs.Names.{nameOf, nameBytes, characters, name, hasBytes, startsWell, isName}
 use Rattle.reader.specs.Records.{nameLengthFits, nameSpelled}
-use Rattle.reader_characters.specs.Cursor.{restBytes, isSpelled}
-use Rattle.reader_characters.specs.Laws.{rest-start}
+use Rattle.reader_characters.specs.Cursor.{isSpelled}
 
 -- no record of the chain from record c on is empty
 unfoldable pub allHaveBytes : Reader → ℕ → Bool
@@ -55,9 +54,9 @@ module _ (rd : Reader) (first c : ℕ) (inv : allHaveBytes rd first ≡ allHaveB
     all-go h d e = inv ∙ rw (linked-step rd c (omega arith), every-cons, e) (simp (← ex, not-false x h))
 
 -- the characters of a name, from its first record
-pub name-from : (rd : Reader) (i c : ℕ) → c ≡ nameOf rd i → name rd i ≡ characters (restBytes rd c 0)
+pub name-from : (rd : Reader) (i c : ℕ) → c ≡ nameOf rd i → name rd i ≡ characters (nameBytes rd (linked rd c))
 unfolding name
-name-from rd i c e = rw (← e, rest-start rd c)
+name-from rd i c e = rw (← e)
 
 -- The ways out of `name_stands`.
 module _ (rd : Reader) (i c : ℕ) (e : c ≡ nameOf rd i) where
@@ -66,6 +65,6 @@ module _ (rd : Reader) (i c : ℕ) (e : c ≡ nameOf rd i) where
   stands-none z = simp (nameSpelled, ← e, eq-eqb c 0 z)
 
   pub stands-some : (r : Bool) → (c ≡ 0 → ⊥) →
-      r ≡ both (allHaveBytes rd c) (both (isSpelled (characters (restBytes rd c 0))) (startsWell (characters (restBytes rd c 0)))) → r ≡ nameSpelled rd i
+      r ≡ both (allHaveBytes rd c) (both (isSpelled (characters (nameBytes rd (linked rd c)))) (startsWell (characters (nameBytes rd (linked rd c))))) → r ≡ nameSpelled rd i
   unfolding nameSpelled isName allHaveBytes isSpelled
   stands-some r p q = simp (nameSpelled, isName, name-from rd i c e, ← e, ne-eqb c 0 p) q

@@ -1,6 +1,7 @@
 // The key of a name: its name space, and its characters dealt out in turn to four numbers.
 use crate::symbols;
 use reader::words;
+use reader_characters::bytes;
 use reader_characters::characters;
 use reader_equality::Key;
 ghost use mathlib.Core.Path.{_≡_};
@@ -72,13 +73,14 @@ pub fn key_of(obligation: &[u8], second: &[u8], m: usize, i: usize) -> Key
     if first == 0 {
         return space_key(0);
     }
-    let mut s = characters::next_character(obligation, second, m, first, 0);
+    let before = bytes::start(obligation, second, m, first);
+    let mut s = characters::next_character(obligation, second, m, before);
     while s.more {
         if !has_room(key, s.value) {
             return space_key(0);
         }
         key = dealt(key, s.value);
-        s = characters::next_character(obligation, second, m, s.at, s.offset);
+        s = characters::next_character(obligation, second, m, s);
     }
     if key.third == 0 {
         return space_key(0);

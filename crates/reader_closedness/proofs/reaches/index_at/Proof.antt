@@ -1,6 +1,6 @@
 use borrow.Author.Needs.{needs}
 use native.Mathlib.Omega.{arith}
-use Rattle.reader_closedness.specs.Reaches.{word-small}
+use Rattle.reader.specs.WordLaws.{word-small}
 use Rattle.reader_closedness.proofs.reaches.index_at.Statement.{statement}
 use Rattle.reader_closedness.proofs.reaches.index_at.Tie as tie
 
