@@ -4,7 +4,7 @@ use crate::reader::Second;
 use crate::Answer;
 use std::path::Path;
 
-pub const FILES: [&str; 3] = ["readings.txt", "special.txt", "pairs.txt"];
+pub const FILES: [&str; 4] = ["readings.txt", "special.txt", "pairs.txt", "u1.txt"];
 
 pub struct Vector {
     pub label: String,

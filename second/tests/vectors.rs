@@ -37,3 +37,8 @@ fn special() {
 fn pairs() {
     run("pairs.txt");
 }
+
+#[test]
+fn u1() {
+    run("u1.txt");
+}

@@ -113,6 +113,7 @@ pub fn word_damage(rng: &mut Rng, obligation: &mut [u8], second: &mut [u8]) {
         let word = 4 * record + *rng.pick(&[0, 1, 1, 1, 2, 2, 2, 3, 3]);
         let number = base + record as u32;
         let before = word_at(file, word);
+        let of_name = word_at(file, 4 * record) == NAME && (1..=2).contains(&(word % 4));
         let value = match rng.below(12) {
             0 => 0,
             1 => before.wrapping_add(1),
@@ -122,10 +123,19 @@ pub fn word_damage(rng: &mut Rng, obligation: &mut [u8], second: &mut [u8]) {
             5 => before ^ 1 << rng.below(32),
             6 => rng.word(),
             7 if word.is_multiple_of(4) => rng.range(1, 80) as u32,
+            7..=10 if of_name => with_byte(rng, before),
             _ => rng.range(1, all.max(1) as usize) as u32,
         };
         set_word(file, word, value);
     }
+}
+
+/// One byte of a name's word becomes another that names are made of, or nearly.
+fn with_byte(rng: &mut Rng, word: u32) -> u32 {
+    let list = b"AENacensuyz09_\xC3\xCC\xCC\x80\x81\x82\x83\x84\x88\x8A\xA7\xA8\xBF\0";
+    let mut bytes = word.to_le_bytes();
+    bytes[rng.below(4)] = *rng.pick(list);
+    u32::from_le_bytes(bytes)
 }
 
 /// One type that a record names becomes another type record.

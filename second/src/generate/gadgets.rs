@@ -3,6 +3,7 @@
 
 use super::rng::Rng;
 use super::writer::Writer;
+use super::{marks, spelling};
 use crate::kinds::*;
 
 /// The file that a gadget stands in.
@@ -63,6 +64,12 @@ pub const GADGETS: &[(&str, Gadget)] = &[
     ("name unused", name_unused),
     ("name taken", name_taken),
     ("name shared", name_shared),
+    ("mark", marks::right),
+    ("mark wrong", marks::wrong),
+    ("spelling taken", marks::taken),
+    ("name taken before", marks::taken_before),
+    ("spelling shared", marks::shared),
+    ("spelling near", marks::near),
     ("typing of terms", typing_of_terms),
     ("typing of formulas", typing_of_formulas),
     ("typing of binders", typing_of_binders),
@@ -108,7 +115,7 @@ impl Bench<'_> {
         self.push(BOTTOM, 0, 0, 0)
     }
 
-    fn choose(&mut self, count: usize) -> usize {
+    pub fn choose(&mut self, count: usize) -> usize {
         self.rng.below(count)
     }
 
@@ -571,8 +578,14 @@ fn chain_length_edge(b: &mut Bench) -> u64 {
 }
 
 fn name_records(b: &mut Bench) -> u64 {
-    let count = b.rng.range(5, 7);
-    let name = b.w.name(&vec![b'a'; 8 * count - b.rng.below(8)]);
+    let length = b.rng.range(33, 56);
+    let mut bytes = Vec::new();
+    match b.rng.chance(50) {
+        // Fewer than 33 characters may be more than 32 bytes.
+        true => spelling::fill(b.rng, &mut bytes, length),
+        false => bytes.resize(length, b'a'),
+    }
+    let name = b.w.name(&bytes);
     let name = match b.rng.chance(20) {
         // Its bytes are wrong too, but its length comes first.
         true => b.push(NAME, 0, 0, name),
@@ -583,16 +596,9 @@ fn name_records(b: &mut Bench) -> u64 {
 }
 
 /// A symbol of one of the three sorts with the name.
-fn symbol(b: &mut Bench, name: u32) -> u32 {
-    let ty = b.given();
-    match b.choose(3) {
-        0 => b.push(GIVEN, name, 0, 0),
-        1 => b.push(CONSTANT, ty, name, 0),
-        _ => {
-            let types = b.w.chain(&[ty]);
-            b.push(FUNCTION, types, 0, name)
-        }
-    }
+pub fn symbol(b: &mut Bench, name: u32) -> u32 {
+    let given = b.choose(3) == 0;
+    symbol_in_space(b, given, name)
 }
 
 fn weight_past(b: &mut Bench) -> u64 {
@@ -662,7 +668,7 @@ pub fn weigh_one(b: &mut Bench, which: usize, weight: u64) -> u64 {
 }
 
 fn name(b: &mut Bench) -> u64 {
-    let bytes: Vec<u8> = match b.choose(9) {
+    let bytes: Vec<u8> = match b.choose(8) {
         0 => vec![b'0' + b.rng.below(10) as u8, b'a'],
         1 => b"_a".to_vec(),
         2 => {
@@ -680,8 +686,7 @@ fn name(b: &mut Bench) -> u64 {
             long.push(0xC3);
             long
         }
-        7 => b"abcdefgh\0ijk".to_vec(),
-        _ => b"E\xCC\x81".to_vec(),
+        _ => b"abcdefgh\0ijk".to_vec(),
     };
     let name = match b.choose(4) {
         0 => {
@@ -749,17 +754,25 @@ fn name_taken(b: &mut Bench) -> u64 {
         true => b.w.name(&bytes),
         false => first,
     };
-    let ty = b.given();
-    let types = b.w.chain(&[ty]);
-    let mut symbol = |given: bool, name: u32| match (given, b.rng.chance(50)) {
-        (true, _) => b.w.push(GIVEN, name, 0, 0),
-        (_, true) => b.w.push(CONSTANT, ty, name, 0),
-        _ => b.w.push(FUNCTION, types, 0, name),
-    };
     let given = first.is_multiple_of(3);
-    symbol(given, first);
-    symbol(given, second);
+    symbol_in_space(b, given, first);
+    symbol_in_space(b, given, second);
     9
+}
+
+/// A given type, or a symbol of the other name space.
+pub fn symbol_in_space(b: &mut Bench, given: bool, name: u32) -> u32 {
+    if given {
+        return b.push(GIVEN, name, 0, 0);
+    }
+    let ty = b.given();
+    match b.rng.chance(50) {
+        true => b.push(CONSTANT, ty, name, 0),
+        false => {
+            let types = b.w.chain(&[ty]);
+            b.push(FUNCTION, types, 0, name)
+        }
+    }
 }
 
 fn name_shared(b: &mut Bench) -> u64 {

@@ -4,6 +4,7 @@ use super::expr::*;
 use super::gadgets::{weigh_one, Bench, Place};
 use super::rng::Rng;
 use super::root_damage::odd_hypothesis;
+use super::spelling::{self, accent_of, accents};
 use super::world::World;
 use super::writer::{Tree, Writer};
 use super::Case;
@@ -31,6 +32,8 @@ pub fn limits() -> Vec<Limit> {
         ranges(&mut list, kind, place);
         chains(&mut list, kind, place);
         names(&mut list, kind, place);
+        marks(&mut list, kind, place);
+        spellings(&mut list, kind, place);
     }
     for kind in [Second::Proof, Second::Derivation] {
         lengths(&mut list, kind);
@@ -237,31 +240,125 @@ fn chains(list: &mut Vec<Limit>, kind: Second, place: Place) {
     }
 }
 
+/// A given type of each name in turn; the last of them is the one that counts.
+fn given_types(
+    list: &mut Vec<Limit>,
+    kind: Second,
+    place: Place,
+    label: String,
+    refusal: u64,
+    names: &[&[u8]],
+) {
+    with_records(list, kind, place, label, refusal, |b| {
+        for bytes in names {
+            let name = b.w.name(bytes);
+            b.push(GIVEN, name, 0, 0);
+        }
+    });
+}
+
+/// Whether a name may end in the byte alone; a zero byte is past its end.
+fn may_end(byte: u8) -> bool {
+    byte.is_ascii_alphanumeric() || byte == b'_' || byte == 0
+}
+
 fn names(list: &mut Vec<Limit>, kind: Second, place: Place) {
     for bytes in [1, 8, 9, 31, 32, 33, 40, 41] {
         let refusal = if bytes > 32 { 6 } else { 0 };
         let label = format!("name of {bytes} bytes");
-        with_records(list, kind, place, label, refusal, |b| {
-            let name = b.w.name(&vec![b'n'; bytes]);
-            b.push(GIVEN, name, 0, 0);
-        });
+        given_types(list, kind, place, label, refusal, &[&vec![b'n'; bytes]]);
     }
     for byte in 0..=255u8 {
         let letter = byte.is_ascii_alphabetic();
-        let follows = letter || byte.is_ascii_digit() || byte == b'_' || byte == 0;
         let pair = (0x80..=0xBF).contains(&byte) && byte != 0x97 && byte != 0xB7;
         let sorts: [(&str, Vec<u8>, bool); 3] = [
             ("first", vec![byte, b'a'], letter),
-            ("last", vec![b'a', byte], follows),
+            ("last", vec![b'a', byte], may_end(byte)),
             ("after C3", vec![0xC3, byte], pair),
         ];
         for (sort, bytes, right) in sorts {
             let label = format!("byte {byte:02x} {sort}");
-            with_records(list, kind, place, label, if right { 0 } else { 8 }, |b| {
-                let name = b.w.name(&bytes);
-                b.push(GIVEN, name, 0, 0);
+            let refusal = if right { 0 } else { 8 };
+            given_types(list, kind, place, label, refusal, &[&bytes]);
+        }
+    }
+}
+
+/// Marks after every letter, bytes around a mark, and marks in every place of the longest name.
+fn marks(list: &mut Vec<Limit>, kind: Second, place: Place) {
+    let mut named = |label: String, refusal: u64, name: &[u8]| {
+        given_types(list, kind, place, label, refusal, &[name]);
+    };
+    for letter in ('A'..='Z').chain('a'..='z') {
+        for mark in spelling::marks() {
+            let refusal = match accent_of(letter, mark) {
+                Some(_) => 0,
+                None => 8,
+            };
+            let name = format!("{letter}{mark}");
+            named(format!("{letter} with {mark:?}"), refusal, name.as_bytes());
+        }
+    }
+    for byte in 0..=255u8 {
+        let acute = accent_of(char::from(byte), '\u{301}').is_some();
+        let follows_e = [0x80, 0x81, 0x82, 0x88].contains(&byte);
+        let sorts: [(&str, Vec<u8>, bool); 3] = [
+            ("before a mark", vec![b'a', byte, 0xCC, 0x81], acute),
+            ("after CC", vec![b'e', 0xCC, byte], follows_e),
+            ("after a mark", vec![b'e', 0xCC, 0x81, byte], may_end(byte)),
+        ];
+        for (sort, bytes, right) in sorts {
+            let label = format!("byte {byte:02x} {sort}");
+            named(label, if right { 0 } else { 8 }, &bytes);
+        }
+    }
+    for second in 0x80..=0xBF {
+        let name = [0xC3, second, 0xCC, 0x81];
+        named(format!("mark after C3 {second:02x}"), 8, &name);
+    }
+    for (marked, plain) in [(10, 0), (10, 1), (10, 2), (10, 3), (11, 0)] {
+        let mut name = "e\u{301}".repeat(marked);
+        name.push_str(&"n".repeat(plain));
+        let refusal = if name.len() > 32 { 6 } else { 0 };
+        let label = format!("name of {marked} marked and {plain} plain letters");
+        named(label, refusal, name.as_bytes());
+    }
+    for at in 0..=29 {
+        let mut name = [b'n'; 32];
+        name[at..at + 3].copy_from_slice("e\u{301}".as_bytes());
+        named(format!("marked letter at {at}"), 0, &name);
+        name[at + 2] = 0x84;
+        named(format!("wrong mark at {at}"), 8, &name);
+        // The name ends within the mark.
+        let label = format!("mark cut off at {at}");
+        named(label, 8, &name[..at + 2]);
+    }
+}
+
+/// Each accent in both spellings: one name in one name space, two names in two.
+fn spellings(list: &mut Vec<Limit>, kind: Second, place: Place) {
+    for accent in accents() {
+        let letter = accent.composed;
+        let (marked, composed) = (accent.marked(), accent.composed());
+        for (order, first, again) in [
+            ("marked first", &marked, &composed),
+            ("composed first", &composed, &marked),
+        ] {
+            let names = [first.as_bytes(), again.as_bytes()];
+            let label = format!("two given types {letter}, {order}");
+            given_types(list, kind, place, label, 9, &names);
+            let label = format!("given type and constant {letter}, {order}");
+            with_records(list, kind, place, label, 0, |b| {
+                let name = b.w.name(names[0]);
+                let ty = b.push(GIVEN, name, 0, 0);
+                let name = b.w.name(names[1]);
+                b.push(CONSTANT, ty, name, 0);
             });
         }
+        let plain = String::from(accent.letter);
+        let label = format!("given types {plain} and {letter}");
+        let names = [plain.as_bytes(), marked.as_bytes()];
+        given_types(list, kind, place, label, 0, &names);
     }
 }
 

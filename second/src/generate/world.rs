@@ -2,6 +2,7 @@
 
 use super::expr::*;
 use super::rng::Rng;
+use super::spelling;
 use crate::kinds::*;
 use std::collections::HashSet;
 
@@ -26,8 +27,9 @@ pub struct World {
     pub functions: Vec<Function>,
     /// Letters a to z only, or all that names may have.
     wide_names: bool,
-    taken: HashSet<Vec<u8>>,
-    given_taken: HashSet<Vec<u8>>,
+    /// By characters, not by bytes.
+    taken: HashSet<String>,
+    given_taken: HashSet<String>,
 }
 
 /// Where a formula is made: the types of the variables bound around it and the number of type variables.
@@ -125,11 +127,14 @@ impl World {
         self.functions.len() as u32 - 1
     }
 
-    /// A right name not taken yet; a constant's may be that of a given type.
+    /// A right name not taken yet; a constant's may be that of a given type, in its spelling or another.
     fn name(&mut self, of_given: bool) -> Vec<u8> {
         if !of_given && self.rng.chance(10) {
-            let shared = self.rng.pick(&self.given).clone();
-            if self.taken.insert(shared.clone()) {
+            let mut shared = self.rng.pick(&self.given).clone();
+            if self.rng.chance(50) {
+                shared = spelling::respelled(&mut self.rng, &shared);
+            }
+            if self.taken.insert(spelling::characters(&shared)) {
                 return shared;
             }
         }
@@ -139,7 +144,7 @@ impl World {
                 true => &mut self.given_taken,
                 false => &mut self.taken,
             };
-            if taken.insert(name.clone()) {
+            if taken.insert(spelling::characters(&name)) {
                 return name;
             }
         }
@@ -382,7 +387,7 @@ fn random_name(rng: &mut Rng, wide: bool) -> Vec<u8> {
     let mut name = Vec::new();
     loop {
         let before = name.len();
-        match rng.below(8) {
+        match rng.below(10) {
             0 if !name.is_empty() => name.push(b'0' + rng.below(10) as u8),
             1 if !name.is_empty() => name.push(b'_'),
             2..=3 => {
@@ -391,7 +396,8 @@ fn random_name(rng: &mut Rng, wide: bool) -> Vec<u8> {
                     name.extend([0xC3, second]);
                 }
             }
-            4 => name.push(b'A' + rng.below(26) as u8),
+            4..=5 => name.extend(spelling::random_accent(rng).marked().bytes()),
+            6 => name.push(b'A' + rng.below(26) as u8),
             _ => name.push(b'a' + rng.below(26) as u8),
         }
         if name.len() > most {

@@ -114,6 +114,20 @@ impl Writer {
         next
     }
 
+    /// The bytes of a name that is written.
+    pub fn bytes_of(&self, name: u32) -> Vec<u8> {
+        let mut bytes = Vec::new();
+        let mut next = name;
+        while next != 0 {
+            let Record { a, b, c, .. } = self.records[next as usize - 1];
+            bytes.extend(a.to_le_bytes());
+            bytes.extend(b.to_le_bytes());
+            next = c;
+        }
+        bytes.retain(|&byte| byte != 0);
+        bytes
+    }
+
     pub fn given(&mut self, world: &World, symbol: u32) -> u32 {
         if let Some(&record) = self.given.get(&symbol) {
             return record;
