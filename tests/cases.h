@@ -79,6 +79,13 @@ static const words true_goal[] = {{1, 3, 0, 3}, {14, 0, 0, 0}, {18, 1, 0, 0}, {1
 
 static const words one_node[] = {{1, 1, 4, 3}, {68, 0, 0, 0}};
 
+/* The goal ∀x·x=x beside a constant, and a proof with a constant of its own: the two have one name, é as C3 A9 and as 65 CC 81. */
+static const words medoc[] = {{1, 8, 0, 8}, {2, 83, 0, 0}, {3, 1, 0, 0}, {2, 1688847181, 25455, 0}, {7, 2, 3, 0},
+                              {9, 0, 2, 0}, {20, 5, 5, 0}, {19, 2, 6, 0}, {18, 7, 0, 0}};
+
+static const words medoc_again[] = {{1, 11, 19, 8}, {2, 2177656141u, 6516580, 0}, {7, 2, 9, 0}, {20, 10, 10, 0}, {18, 11, 0, 0}, {1, 12, 0, 0},
+                                    {35, 13, 0, 0}, {1, 11, 0, 0}, {1, 10, 0, 15}, {1, 8, 0, 16}, {1, 14, 0, 0}, {43, 17, 18, 0}};
+
 #define BASE(derivation, obligation, second) {derivation, obligation, COUNT(obligation), second, COUNT(second)}
 
 static const struct base d1 = BASE(false, obligation1, proof1);
@@ -87,8 +94,10 @@ static const struct base e1 = BASE(true, obligation1, every_rule);
 static const struct base e2 = BASE(true, obligation1, other_type);
 static const struct base e3 = BASE(true, obligation12, still_there);
 static const struct base e17 = BASE(true, true_goal, one_node);
+static const struct base m1 = BASE(false, medoc, medoc_again);
+static const struct base m3 = BASE(true, medoc, medoc_again);
 
-/* D1 to D12 of paper 01, then derivations. */
+/* D1 to D12 of paper 01, derivations, and both spellings of an accent: E CC 81 in a derivation, the two Médocs, another name for one of them. */
 static const struct sample samples[] = {
     {"d1", &d1, 0, {0}, 0, {0, 0, 0, 2}},
     {"d2", &d1, 6, {1, 11, 12, 6}, 0, {12, 2, 12, 0}},
@@ -99,7 +108,7 @@ static const struct sample samples[] = {
     {"d7", &d1, 7, {2, 83, 0, 0}, 0, {0, 0, 0, 2}},
     {"d8", &d1, 7, {2, 99, 1, 0}, 0, {8, 2, 8, 0}},
     {"d9", &d1, 7, {2, 35267, 0, 0}, 0, {0, 0, 0, 2}},
-    {"d10", &d1, 7, {2, 8506437, 0, 0}, 0, {8, 2, 8, 0}},
+    {"d10", &d1, 7, {2, 8506437, 0, 0}, 0, {0, 0, 0, 2}},
     {"d11", &d1, 0, {0}, 15, {1, 2, 0, 0}},
     {"d12", &d12, 0, {0}, 0, {16, 2, 17, 1}},
     {"e1", &e1, 0, {0}, 0, {0, 0, 0, 26}},
@@ -119,6 +128,10 @@ static const struct sample samples[] = {
     {"e15", &e1, 13, {16, 10, 10, 0}, 0, {15, 2, 52, 13}},
     {"e16", &e1, 17, {1, 4, 0, 0}, 0, {15, 2, 20, 23}},
     {"e17", &e17, 0, {0}, 0, {0, 0, 0, 1}},
+    {"e18", &e1, 7, {2, 8506437, 0, 0}, 0, {0, 0, 0, 26}},
+    {"m1", &m1, 0, {0}, 0, {9, 2, 10, 0}},
+    {"m2", &m1, 9, {2, 8506437, 0, 0}, 0, {0, 0, 0, 2}},
+    {"m3", &m3, 0, {0}, 0, {9, 2, 10, 0}},
 };
 
 static void put_record(uint8_t *bytes, const words record)

@@ -430,6 +430,23 @@ pub fn shared_tails(kind: Second, most: u32) -> Shape {
     sheet.close(&format!("(c) {symbols} names, the last 28 bytes alike"))
 }
 
+/// Constants whose names have ten letters with a mark each, 30 bytes, and are told apart by the last of them.
+pub fn marked_names(kind: Second, most: u32) -> Shape {
+    const MARKED: [&str; 5] = ["a\u{301}", "e\u{301}", "i\u{301}", "o\u{301}", "u\u{301}"];
+    let mut sheet = Sheet::new(kind);
+    sheet.end_obligation();
+    let (given, end) = (sheet.given, sheet.end(1));
+    let mut symbols = 0;
+    while symbols < most && sheet.is_before(end - 5) {
+        let letter = |place| MARKED[(symbols / u32::pow(5, place) % 5) as usize];
+        let name: String = (0..10).rev().map(letter).collect();
+        let name = sheet.w.name(name.as_bytes());
+        sheet.w.push(CONSTANT, given, name, 0);
+        symbols += 1;
+    }
+    sheet.close(&format!("(c) {symbols} names of 10 marked letters"))
+}
+
 /// Constants whose names are made against the proved code's search by keys: every fourth character varies, so that one of a key's four
 /// numbers does, the last two of these not, and each such number has one remainder by 65,521. So all names share the
 /// bucket and the first 80 turns of the search.
@@ -669,6 +686,7 @@ pub fn shapes(kind: Second, symbols: u32) -> Vec<Shape> {
     list.push(names(kind, symbols));
     list.push(long_names(kind, symbols / 2));
     list.push(shared_tails(kind, symbols));
+    list.push(marked_names(kind, symbols));
     list.push(names_against_the_key(kind, symbols));
     list.push(name_taken(kind, symbols));
     list.sort_by(|x, y| x.name.cmp(&y.name));
