@@ -32,7 +32,7 @@ fn smaller(c: usize, r: usize) -> usize
     if c < r { c } else { 0 }
 }
 
-// Record r; its words are no larger than words.
+// Record r; its words have 32 bits.
 fn fetched(obligation: &[u8], second: &[u8], m: usize, r: usize) -> Record
     ensures { λ x. ⌜ RecordIs (word (now (obligation .entry)) (now (second .entry)) m) r x × (x .a < 4294967296) × (x .b < 4294967296) ⌝ }
 {
