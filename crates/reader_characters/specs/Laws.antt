@@ -17,7 +17,7 @@ use Rattle.reader.specs.Names.{bytesOf, recordBytes, trimmed, nameBytes}
 use Rattle.reader_view.specs.declared.Record.{Record}
 use Rattle.reader_view.specs.Records.{RecordIs}
 use Rattle.reader_characters.specs.declared.Step.{Step}
-use Rattle.reader_characters.specs.Cursor.{digits, top, leftBytes, restBytes, Held, step, nothing, read, Left, FirstByte}
+use Rattle.reader_characters.specs.Steps.{digits, top, leftBytes, restBytes, Held, step, nothing, read, Left, FirstByte}
 
 isZero : ℕ → Bool
 isZero b = eqb b 0

@@ -1,4 +1,4 @@
-pub mod Cursor
+pub mod Steps
 pub mod Laws
 pub mod Spelling
 pub mod Composing

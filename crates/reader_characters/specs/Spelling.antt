@@ -14,7 +14,7 @@ use Rattle.reader.specs.Names.{nameBytes, isLetter, isDigitOrUnderscore, single
 use Rattle.reader.specs.Accents.{composed}
 use Rattle.reader.specs.NameLaws.{spell-pair, spell-half, spell-marked, spell-cut, spell-single}
 use Rattle.reader_characters.specs.declared.Step.{Step}
-use Rattle.reader_characters.specs.Cursor.{restBytes, Held, step, read, spelled, Left, FirstByte, FirstCharacter, isSpelled}
+use Rattle.reader_characters.specs.Steps.{restBytes, Held, step, read, spelled, Left, FirstByte, FirstCharacter, isSpelled}
 use Rattle.reader_characters.specs.Laws.{peek}
 
 -- `if r { return true; }`

@@ -10,7 +10,7 @@ ghost use Rattle.reader.specs.Tests.{both, ifLt};
 ghost use Rattle.reader.specs.Chains.{linked};
 ghost use Rattle.reader.specs.Names.{nameBytes};
 ghost use Rattle.reader_view.specs.Records.{RecordIs};
-ghost use Rattle.reader_characters.specs.Cursor.{restBytes, Held, nothing, Left, FirstByte};
+ghost use Rattle.reader_characters.specs.Steps.{restBytes, Held, nothing, Left, FirstByte};
 
 // Nothing was read, and nothing is left.
 fn none() -> Step

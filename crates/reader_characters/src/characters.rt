@@ -1,4 +1,4 @@
-// The characters of a name, read one by one from a cursor.
+// The characters of a name, read one by one.
 use crate::Step;
 use crate::accents;
 use crate::bytes;
@@ -10,7 +10,7 @@ ghost use lib.ListN.{getD};
 ghost use Rattle.reader.specs.Words.{word};
 ghost use Rattle.reader.specs.Chains.{linked};
 ghost use Rattle.reader.specs.Names.{nameBytes, isLetter, isDigitOrUnderscore, single, accented, characters, startsWell};
-ghost use Rattle.reader_characters.specs.Cursor.{restBytes, Held, step, FirstCharacter, isSpelled};
+ghost use Rattle.reader_characters.specs.Steps.{restBytes, Held, step, FirstCharacter, isSpelled};
 
 fn is_letter(b: usize) -> bool
     ensures { λ r. ⌜ r ≡ isLetter b ⌝ }

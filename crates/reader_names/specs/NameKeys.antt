@@ -18,7 +18,7 @@ use Rattle.reader.specs.TreeLaws.{linked-zero}
 use Rattle.reader_equality.specs.declared.Key.{Key}
 use Rattle.reader_equality.specs.Keys.{key}
 use Rattle.reader_characters.specs.declared.Step.{Step}
-use Rattle.reader_characters.specs.Cursor.{restBytes, spelled, Left, FirstCharacter}
+use Rattle.reader_characters.specs.Steps.{restBytes, spelled, Left, FirstCharacter}
 use Rattle.reader_characters.specs.Spelling.{between-most, spelled-none, spelled-more, spelled-next, spelled-name}
 use Rattle.reader_names.specs.Symbols.{name-from}
 

@@ -14,7 +14,7 @@ use Rattle.reader.specs.TreeLaws.{linked-zero}
 use Rattle.reader.specs.Names.{nameOf, nameSpace, nameBytes, characters, name, hasBytes, startsWell, isName}
 use Rattle.reader.specs.Records.{nameLengthFits, nameSpelled}
 use Rattle.reader_equality.specs.declared.Key.{Key}
-use Rattle.reader_characters.specs.Cursor.{isSpelled}
+use Rattle.reader_characters.specs.Steps.{isSpelled}
 use Rattle.reader_characters.specs.Laws.{bytes-most}
 use Rattle.reader_characters.specs.Spelling.{is-spelled-cons}
 use Rattle.reader.specs.NameLaws.{Spells, spells}

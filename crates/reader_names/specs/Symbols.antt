@@ -14,7 +14,7 @@ use Rattle.reader.specs.Chains.{linked}
 use Rattle.reader.specs.TreeLaws.{linked-zero, linked-step}
 use Rattle.reader.specs.Names.{nameOf, nameBytes, characters, name, hasBytes, startsWell, isName}
 use Rattle.reader.specs.Records.{nameLengthFits, nameSpelled}
-use Rattle.reader_characters.specs.Cursor.{isSpelled}
+use Rattle.reader_characters.specs.Steps.{isSpelled}
 
 -- no record of the chain from record c on is empty
 unfoldable pub allHaveBytes : Reader → ℕ → Bool

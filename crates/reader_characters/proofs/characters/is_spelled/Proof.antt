@@ -4,7 +4,7 @@ use lib.ListN.{length}
 use Rattle.reader.specs.Words.{word}
 use Rattle.reader.specs.Chains.{linked}
 use Rattle.reader.specs.Names.{nameBytes, characters}
-use Rattle.reader_characters.specs.Cursor.{Held, spelled, isSpelled}
+use Rattle.reader_characters.specs.Steps.{Held, spelled, isSpelled}
 use Rattle.reader_characters.specs.Spelling.{spelled-name, spelled-start, spelled-stop, spelled-go, spelled-end, spelled-falls}
 use Rattle.reader_characters.proofs.characters.is_spelled.Statement.{statement}
 use Rattle.reader_characters.proofs.characters.is_spelled.Tie as tie

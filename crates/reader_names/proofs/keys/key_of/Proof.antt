@@ -5,7 +5,7 @@ use borrow.Author.Tests.{not-false}
 use lib.ListN.{length}
 use Rattle.reader.specs.Words.{word}
 use Rattle.reader.specs.Tests.{every}
-use Rattle.reader_characters.specs.Cursor.{Held, spelled}
+use Rattle.reader_characters.specs.Steps.{Held, spelled}
 use Rattle.reader_characters.specs.Spelling.{spelled-falls}
 use Rattle.reader_names.specs.NameKeys.{spread, nameKey, isSmall, key-nameless, key-start, step-small, value-small, key-stop, key-go, key-none, key-all}
 use Rattle.reader_names.proofs.keys.key_of.Statement.{statement}
