@@ -28,6 +28,7 @@ pub ascii-letters : Every (λ x. isLetter (x .base) ≡ true) decompositions
 unfolding every isLetter either between ifLt
 ascii-letters = every-line (λ x. isLetter (x .base)) decompositions refl
 
+-- n is one of a list of numbers
 unfoldable pub isListed : ℕ → List ℕ → Bool
 isListed n [] = false
 isListed n (x ∷ xs) = either (eqb n x) (isListed n xs)
@@ -36,6 +37,7 @@ isListed n (x ∷ xs) = either (eqb n x) (isListed n xs)
 abbrev pub marks : List ℕ
 marks = 128 ∷ 129 ∷ 130 ∷ 131 ∷ 136 ∷ 138 ∷ 167 ∷ []
 
+-- each line's mark is one of these
 pub seven-marks : Every (λ x. isListed (x .mark) marks ≡ true) decompositions
 unfolding every isListed either
 seven-marks = every-line (λ x. isListed (x .mark) marks) decompositions refl

@@ -35,16 +35,16 @@ unfolding isLetter
 letter-out {b} (Letter.capital p q) = either-first (between 65 90 b) (between 97 122 b) (between-out 65 90 b p q)
 letter-out {b} (Letter.small p q) = either-second (between 65 90 b) (between 97 122 b) (between-out 97 122 b p q)
 
-mark-in : (b : ℕ) → isDigitOrUnderscore b ≡ true → DigitOrUnderscore b
+digit-in : (b : ℕ) → isDigitOrUnderscore b ≡ true → DigitOrUnderscore b
 unfolding isDigitOrUnderscore
-mark-in b h =
+digit-in b h =
     either-parts (between 48 57 b) _ h (λ e. let p = between-parts 48 57 b e in DigitOrUnderscore.digit (p .0) (p .1))
     (λ e. DigitOrUnderscore.underscore (eqb-true b 95 e))
 
-mark-out : {b : ℕ} → DigitOrUnderscore b → isDigitOrUnderscore b ≡ true
+digit-out : {b : ℕ} → DigitOrUnderscore b → isDigitOrUnderscore b ≡ true
 unfolding isDigitOrUnderscore
-mark-out {b} (DigitOrUnderscore.digit p q) = either-first (between 48 57 b) (eqb b 95) (between-out 48 57 b p q)
-mark-out {b} (DigitOrUnderscore.underscore e) = either-second (between 48 57 b) (eqb b 95) (eq-eqb b 95 e)
+digit-out {b} (DigitOrUnderscore.digit p q) = either-first (between 48 57 b) (eqb b 95) (between-out 48 57 b p q)
+digit-out {b} (DigitOrUnderscore.underscore e) = either-second (between 48 57 b) (eqb b 95) (eq-eqb b 95 e)
 
 -- a letter is no digit, no underscore, and no C3
 letter-only : {b : ℕ} → Letter b → DigitOrUnderscore b → ⊥
@@ -57,9 +57,9 @@ letter-range : {b : ℕ} → Letter b → (1 ≤ b) × (b ≤ 194)
 letter-range (Letter.capital p q) = (omega arith, omega arith)
 letter-range (Letter.small p q) = (omega arith, omega arith)
 
-mark-range : {b : ℕ} → DigitOrUnderscore b → (1 ≤ b) × (b ≤ 194)
-mark-range (DigitOrUnderscore.digit p q) = (omega arith, omega arith)
-mark-range (DigitOrUnderscore.underscore e) = (omega arith, omega arith)
+digit-range : {b : ℕ} → DigitOrUnderscore b → (1 ≤ b) × (b ≤ 194)
+digit-range (DigitOrUnderscore.digit p q) = (omega arith, omega arith)
+digit-range (DigitOrUnderscore.underscore e) = (omega arith, omega arith)
 
 -- characters of one byte
 single-is : (b : ℕ) → single b ≡ ifTrue (either (isLetter b) (isDigitOrUnderscore b)) b 0
@@ -69,14 +69,14 @@ single-is b = refl
 single-letter : (b : ℕ) → Letter b → single b ≡ b
 single-letter b l = single-is b ∙ when-true b 0 _ (either-first (isLetter b) (isDigitOrUnderscore b) (letter-out l))
 
-single-mark : (b : ℕ) → DigitOrUnderscore b → single b ≡ b
-single-mark b m = single-is b ∙ when-true b 0 _ (either-second (isLetter b) (isDigitOrUnderscore b) (mark-out m))
+single-digit : (b : ℕ) → DigitOrUnderscore b → single b ≡ b
+single-digit b m = single-is b ∙ when-true b 0 _ (either-second (isLetter b) (isDigitOrUnderscore b) (digit-out m))
 
 single-in : (b : ℕ) → (single b ≡ 0 → ⊥) → Letter b ⊎ DigitOrUnderscore b
 single-in b h = go (either (isLetter b) (isDigitOrUnderscore b)) refl
   where
     go : (v : Bool) → either (isLetter b) (isDigitOrUnderscore b) ≡ v → Letter b ⊎ DigitOrUnderscore b
-    go true e = either-parts (isLetter b) _ e (λ l. inl (letter-in b l)) (λ m. inr (mark-in b m))
+    go true e = either-parts (isLetter b) _ e (λ l. inl (letter-in b l)) (λ m. inr (digit-in b m))
     go false e = absurd (h (single-is b ∙ when-false b 0 _ e))
 
 -- characters of two bytes
@@ -130,7 +130,7 @@ Found cs = Every (λ c. c ≡ 0 → ⊥) cs
 no-mark-first : {bs : List ℕ} → Spelled bs → getD bs 0 0 ≡ 204 → ⊥
 no-mark-first Spelled.end e = omega arith
 no-mark-first (Spelled.letter l s) e = let r = letter-range l in omega arith
-no-mark-first (Spelled.digit-or-underscore m s) e = let r = mark-range m in omega arith
+no-mark-first (Spelled.digit-or-underscore m s) e = let r = digit-range m in omega arith
 no-mark-first (Spelled.accented a s) e = let k = a .first in omega arith
 no-mark-first (Spelled.marked m s) e = let r = letter-range (marked-base m) in omega arith
 
@@ -148,9 +148,9 @@ spelled-out (Spelled.letter {b = b} {bs = bs} l s) =
     subst Found (sym (char-one b bs (r .1) s))
     (every-more (λ c. c ≡ 0 → ⊥) (single b) (characters bs) (λ z. let q : single b ≡ b = single-letter b l in omega arith) (spelled-out s))
 spelled-out (Spelled.digit-or-underscore {b = b} {bs = bs} m s) =
-    let r = mark-range m in
+    let r = digit-range m in
     subst Found (sym (char-one b bs (r .1) s))
-    (every-more (λ c. c ≡ 0 → ⊥) (single b) (characters bs) (λ z. let q : single b ≡ b = single-mark b m in omega arith) (spelled-out s))
+    (every-more (λ c. c ≡ 0 → ⊥) (single b) (characters bs) (λ z. let q : single b ≡ b = single-digit b m in omega arith) (spelled-out s))
 spelled-out (Spelled.accented {b = b} {c = c} {bs = bs} a s) =
     subst Found (sym (spell-pair b c bs (a .first)))
     (every-more (λ c. c ≡ 0 → ⊥) (accented c) (characters bs) (λ z. let q : accented c ≡ c + 64 = accented-out b c a in omega arith) (spelled-out s))
@@ -175,7 +175,7 @@ spelled-after Spelled.end bs cs p q e = e
 spelled-after (Spelled.letter {b = b} {bs = front} l s) bs cs p q e =
     after-one b (letter-range l .1) s bs cs p q (spelled-after s bs cs p q e)
 spelled-after (Spelled.digit-or-underscore {b = b} {bs = front} m s) bs cs p q e =
-    after-one b (mark-range m .1) s bs cs p q (spelled-after s bs cs p q e)
+    after-one b (digit-range m .1) s bs cs p q (spelled-after s bs cs p q e)
 spelled-after (Spelled.accented {b = b} {c = c} {bs = front} a s) bs cs p q e =
     spell-pair b c (front ++ bs) (a .first) ∙ ap (λ (ds : List ℕ). accented c ∷ ds) (spelled-after s bs cs p q e) ∙ sym (spell-pair b c (front ++ cs) (a .first))
 spelled-after (Spelled.marked {b = b} {d = d} {bs = front} m s) bs cs p q e =
@@ -215,10 +215,10 @@ name-in (Spelled.letter l s) w = SpelledName.letter l s
 name-in (Spelled.accented a s) w = SpelledName.accented a s
 name-in (Spelled.marked m s) w = SpelledName.marked m s
 name-in (Spelled.digit-or-underscore {b = b} {bs = bs} m s) w =
-    let r = mark-range m in
-    let e : characters (b ∷ bs) ≡ b ∷ characters bs = char-one b bs (r .1) s ∙ ap (λ (c : ℕ). c ∷ characters bs) (single-mark b m) in
+    let r = digit-range m in
+    let e : characters (b ∷ bs) ≡ b ∷ characters bs = char-one b bs (r .1) s ∙ ap (λ (c : ℕ). c ∷ characters bs) (single-digit b m) in
     let v : not (isDigitOrUnderscore b) ≡ true = ap startsWell (sym e) ∙ w in
-    failed (isDigitOrUnderscore b) (not-true _ v) (mark-out m)
+    failed (isDigitOrUnderscore b) (not-true _ v) (digit-out m)
 
 all-spelled : {bs : List ℕ} → SpelledName bs → Spelled bs
 all-spelled (SpelledName.letter l s) = Spelled.letter l s
@@ -232,7 +232,7 @@ large-only c low (DigitOrUnderscore.underscore e) = omega arith
 
 starts-with : (ds : List ℕ) (c : ℕ) (cs : List ℕ) → ds ≡ c ∷ cs → (DigitOrUnderscore c → ⊥) → startsWell ds ≡ true
 unfolding startsWell
-starts-with ds c cs e no-digit = ap startsWell e ∙ rw (not-so (isDigitOrUnderscore c) (λ h. no-digit (mark-in c h)))
+starts-with ds c cs e no-digit = ap startsWell e ∙ rw (not-so (isDigitOrUnderscore c) (λ h. no-digit (digit-in c h)))
 
 starts : {bs : List ℕ} → SpelledName bs → startsWell (characters bs) ≡ true
 starts (SpelledName.letter {b = b} {bs = bs} l s) =

@@ -10,6 +10,7 @@ use borrow.Author.Tests.{ne-eqb, lt-ltb, leb-true}
 use Rattle.reader.specs.Words.{Reader}
 use Rattle.reader.specs.Tests.{both, every, ifEq}
 use Rattle.reader.specs.Chains.{linked}
+use Rattle.reader.specs.NameLaws.{Spells, spells}
 use Rattle.reader.specs.TreeLaws.{linked-zero}
 use Rattle.reader.specs.Names.{nameOf, nameSpace, nameBytes, characters, name, hasBytes, startsWell, isName}
 use Rattle.reader.specs.Records.{nameLengthFits, nameSpelled}
@@ -17,7 +18,6 @@ use Rattle.reader_equality.specs.declared.Key.{Key}
 use Rattle.reader_characters.specs.Steps.{isSpelled}
 use Rattle.reader_characters.specs.Laws.{bytes-most}
 use Rattle.reader_characters.specs.Spelling.{is-spelled-cons}
-use Rattle.reader.specs.NameLaws.{Spells, spells}
 use Rattle.reader_names.specs.NameKeys.{spaceKey, hasRoom, dealt, mixed, spread, nameKey, isSmall, spread-go, spread-all, small-first, small-rest, name-small}
 
 -- the numbers that have room for n digits more
