@@ -1,30 +1,16 @@
 // A file that an argument names, written whole or not at all: the bytes go into a new file beside it, which then takes its name.
-ghost use mathlib.Core.Path.{_≡_};
-ghost use mathlib.Core.List.{_++_};
+use programs_text::text;
 ghost use Prim.Native.Nat.{_+_, _≤_};
-ghost use lib.ListN.{length, take};
+ghost use lib.ListN.{length};
 ghost use Rattle.programs.specs.Names.{NamesPart};
-
-// Copies bytes into the area from place `at` on; where they end.
-fn put_bytes(area: &mut [u8], at: usize, bytes: &[u8]) -> usize
-    requires { ⌜ at + length (now bytes) ≤ length (now area) ⌝ }
-    ensures { λ r. ⌜ (r ≡ at + length (now (bytes .entry))) × (take r (now (area .exit)) ≡ take at (now (area .entry)) ++ now (bytes .entry)) ⌝ }
-{
-    let mut i = 0;
-    while i < bytes.len() {
-        area[at + i] = bytes[i];
-        i += 1;
-    }
-    at + i
-}
 
 // Writes the name of the temporary file, the name with `.part` behind it, to the area's start; its length.
 fn put_part(area: &mut [u8], name: &[u8]) -> usize
     requires { ⌜ length (now name) + 5 ≤ length (now area) ⌝ }
     ensures { λ r. ⌜ NamesPart (now (name .entry)) (now (area .exit)) r ⌝ }
 {
-    let end = put_bytes(area, 0, name);
-    put_bytes(area, end, b".part")
+    let end = text::append(area, 0, name);
+    text::append(area, end, b".part")
 }
 
 // Writes the bytes to an open file, as far as its device; whether all of them are there.

@@ -11,7 +11,7 @@ use lib.Seq.{take-all, take-take, take-set-le, drop-cons, getD-set-same, drop-se
 use Rattle.reader.specs.Tests.{ifLt}
 use Rattle.reader.specs.DownLaws.{Local, down-zero, down-step}
 use Rattle.reader.specs.declared.Answer.{Answer}
-use Rattle.programs_lines.specs.Lines.{digit, decimalStep, decimal, line, EndsIn, translationLine, TranslationEndsIn}
+use Rattle.programs_lines.specs.Lines.{digit, decimalStep, decimal, numbersLine, line, EndsIn, translationLine, TranslationEndsIn}
 
 step-local : Local decimalStep
 unfolding decimalStep
@@ -87,13 +87,19 @@ writing-end n rest end begin r out out′ tail w h e d =
     (omega (arith, w .inside), omega (arith, w .room), d ∙ rw (decimal-last rest h) at (w .text))
 
 -- four numbers written before each other, nothing after them
-pub line-of : (a : Answer) (end s₁ s₂ s₃ s₄ : List ℕ) → end ≡ [] → s₁ ≡ decimal (a .nodes) ++ (10 ∷ end) → s₂ ≡ decimal (a .at) ++ (32 ∷ s₁)
-    → s₃ ≡ decimal (a .file) ++ (32 ∷ s₂) → s₄ ≡ decimal (a .refusal) ++ (32 ∷ s₃) → s₄ ≡ line a
+pub numbers-line-of : (a b c d : ℕ) (end s₁ s₂ s₃ s₄ : List ℕ) → end ≡ [] → s₁ ≡ decimal d ++ (10 ∷ end) → s₂ ≡ decimal c ++ (32 ∷ s₁)
+    → s₃ ≡ decimal b ++ (32 ∷ s₂) → s₄ ≡ decimal a ++ (32 ∷ s₃) → s₄ ≡ numbersLine a b c d
+unfolding numbersLine
+numbers-line-of a b c d end s₁ s₂ s₃ s₄ none e₁ e₂ e₃ e₄ = rw (e₄, e₃, e₂, e₁, none)
+
+-- the line of an answer has its four numbers
+pub line-ends-in : (a : Answer) (before out : List ℕ) (begin : ℕ) →
+    EndsIn (numbersLine (a .refusal) (a .file) (a .at) (a .nodes)) before out begin → EndsIn (line a) before out begin
 unfolding line
-line-of a end s₁ s₂ s₃ s₄ none e₁ e₂ e₃ e₄ = rw (e₄, e₃, e₂, e₁, none)
+line-ends-in a before out begin w = w
 
 -- an area that ends in the line of an answer ends in that of an equal one
-pub ends-in-equal : (a b : Answer) (before out : List ℕ) (begin : ℕ) → a ≡ b → EndsIn a before out begin → EndsIn b before out begin
+pub ends-in-equal : (a b : Answer) (before out : List ℕ) (begin : ℕ) → a ≡ b → EndsIn (line a) before out begin → EndsIn (line b) before out begin
 ends-in-equal a b before out begin e w = rw (← e) w
 
 -- five numbers written before each other, nothing after them
@@ -112,8 +118,8 @@ translation-ends-in-equal a b n before out begin e w = rw (← e) w
 slice-is : (out text : List ℕ) (begin size : ℕ) → size ≡ length out → drop begin out ≡ text → take (size - begin) (drop begin out) ≡ text
 slice-is out text begin size whole e = take-all (size - begin) (drop begin out) (omega (arith, length-drop begin out, whole)) ∙ e
 
-pub line-slice : (a : Answer) (before out : List ℕ) (begin : ℕ) → EndsIn a before out begin → take (84 - begin) (drop begin out) ≡ line a
-line-slice a before out begin e = slice-is out (line a) begin 84 (e .whole) (e .text)
+pub line-slice : (text before out : List ℕ) (begin : ℕ) → EndsIn text before out begin → take (84 - begin) (drop begin out) ≡ text
+line-slice text before out begin e = slice-is out text begin 84 (e .whole) (e .stands)
 
 pub translation-slice : (a : Answer) (n : ℕ) (before out : List ℕ) (begin : ℕ) → TranslationEndsIn a n before out begin →
     take (105 - begin) (drop begin out) ≡ translationLine a n

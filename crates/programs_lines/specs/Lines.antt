@@ -19,14 +19,20 @@ decimalStep shorter n = ifLt n 10 (digit n ∷ []) (shorter (n / 10) ++ (digit (
 unfoldable pub decimal : ℕ → List ℕ
 decimal = down (digit 0 ∷ []) decimalStep
 
-unfoldable pub line : Answer → List ℕ
-line a = decimal (a .refusal) ++ (32 ∷ decimal (a .file) ++ (32 ∷ decimal (a .at) ++ (32 ∷ decimal (a .nodes) ++ (10 ∷ []))))
+-- four numbers in decimal, single spaces between, a newline at the end
+unfoldable pub numbersLine : ℕ → ℕ → ℕ → ℕ → List ℕ
+numbersLine a b c d = decimal a ++ (32 ∷ decimal b ++ (32 ∷ decimal c ++ (32 ∷ decimal d ++ (10 ∷ []))))
 
--- an area of 84 bytes whose last ones, from place `begin` on, are the line: four numbers of at most 20 digits, a byte after each; those before it are as they were
-pub record EndsIn (a : Answer) (before out : List ℕ) (begin : ℕ) : Type 0 where
+-- "the answer as four numbers on one line, single spaces between"
+unfoldable pub line : Answer → List ℕ
+line a = numbersLine (a .refusal) (a .file) (a .at) (a .nodes)
+
+-- an area of 84 bytes whose last ones, from place `begin` on, are a line of four numbers, each of at most 20 digits and with a byte after it; those before it
+-- are as they were
+pub record EndsIn (text before out : List ℕ) (begin : ℕ) : Type 0 where
   pub whole : 84 ≡ length out
   pub inside : begin < 84
-  pub text : drop begin out ≡ line a
+  pub stands : drop begin out ≡ text
   pub kept : take begin out ≡ take begin before
 
 -- the four numbers and the derivation's length

@@ -4,7 +4,7 @@ ghost use mathlib.Core.Path.{_≡_};
 ghost use mathlib.Core.List.{_∷_, _++_};
 ghost use Prim.Native.Nat.{_+_, _≤_, _<_};
 ghost use lib.ListN.{length, take, drop};
-ghost use Rattle.programs_lines.specs.Lines.{decimal, EndsIn, TranslationEndsIn};
+ghost use Rattle.programs_lines.specs.Lines.{decimal, numbersLine, line, EndsIn, TranslationEndsIn};
 
 // Writes a byte before place `end`; its place.
 fn put_byte(out: &mut [u8], end: usize, byte: u8) -> usize
@@ -39,14 +39,21 @@ fn put_number(out: &mut [u8], end: usize, n: usize, byte: u8) -> usize
     put_decimal(out, end, n)
 }
 
+// Writes a line of four numbers at the end of the area; where it begins.
+pub fn put_numbers(out: &mut [u8; 84], a: usize, b: usize, c: usize, d: usize) -> usize
+    ensures { λ r. ⌜ EndsIn (numbersLine a b c d) (now (out .entry)) (now (out .exit)) r ⌝ }
+{
+    let fourth = put_number(out, 84, d, b'\n');
+    let third = put_number(out, fourth, c, b' ');
+    let second = put_number(out, third, b, b' ');
+    put_number(out, second, a, b' ')
+}
+
 // Writes the line of an answer at the end of the area; where it begins.
 pub fn put_line(out: &mut [u8; 84], a: Answer) -> usize
-    ensures { λ r. ⌜ EndsIn a (now (out .entry)) (now (out .exit)) r ⌝ }
+    ensures { λ r. ⌜ EndsIn (line a) (now (out .entry)) (now (out .exit)) r ⌝ }
 {
-    let nodes = put_number(out, 84, a.nodes, b'\n');
-    let at = put_number(out, nodes, a.at, b' ');
-    let file = put_number(out, at, a.file, b' ');
-    put_number(out, file, a.refusal, b' ')
+    put_numbers(out, a.refusal, a.file, a.at, a.nodes)
 }
 
 // Writes the line of a translation's answer, with the derivation's length, at the end of the area; where it begins.

@@ -10,16 +10,16 @@ use Rattle.programs.proofs.saved.put_part.Tie as tie
 
 pub put-part-spec : {M : Type 1} → statement M
 put-part-spec = tie.close (tie.spec
-    -- put-bytes-requires
+    -- append-requires
     (λ c κs. search needs)
-    -- slice-aggregate-put-bytes
+    -- slice-aggregate-append
     (λ c. search needs)
-    -- put-bytes-requires-2
+    -- append-requires-2
     (λ c κs. search needs)
     -- same-length
     (λ c. search needs)
     -- returns
     (λ c. record {
       counts = counts _ _ (omega arith);
-      text = c .before .before .put-bytes2 .ensures .1 ∙ ap (λ (l : List ℕ). l ++ partEnd) (c .before .before .before .before .before .before .before .put-bytes .ensures .1);
+      text = c .before .before .append2 .ensures .stands ∙ ap (λ (l : List ℕ). l ++ partEnd) (c .before .before .before .before .before .before .before .append .ensures .stands);
     }))

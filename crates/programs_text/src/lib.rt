@@ -1,0 +1,2 @@
+// Text put behind other text in a lent area.
+pub mod text;
