@@ -1,0 +1,4 @@
+pub mod Order
+pub mod OrderLaws
+pub mod Listing
+pub mod Cases

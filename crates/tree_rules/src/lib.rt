@@ -1,0 +1,1 @@
+// The listing of a proof: definitions in specs/, no code.
