@@ -1,0 +1,5 @@
+pub mod Walked
+pub mod WalkedLaws
+pub mod BeforeWalk
+pub mod Statements
+pub mod Theorems

@@ -1,0 +1,95 @@
+-- The proofs of `Statements`.
+use Prim.Native.Nat.{ℕ, _+_, _≤_}
+use mathlib.Core.Path.{_≡_, refl, sym, ap, _∙_}
+use mathlib.Core.List.{List, []}
+use mathlib.Core.Bool.{Bool, true, false}
+use lib.Dec.{eqb}
+use lib.ListN.{length, take}
+use native.Mathlib.Omega.{arith}
+use borrow.Author.Tests.{eqb-true, eq-eqb}
+use Rattle.reader.specs.declared.Answer.{Answer}
+use Rattle.reader.specs.Tests.{ifEq}
+use Rattle.reader.specs.Answers.{orAnswer}
+use Rattle.reader.specs.Places.{mostRecords, countOf, rootOf, reading}
+use Rattle.reader_laws.specs.Scan.{orAnswer-parts, orAnswer-join}
+use Rattle.reader_laws.specs.File.{beside, reading-parts, length-parts, header-parts, counts-parts}
+use Rattle.reader_laws.specs.Under.{root-under}
+use Rattle.reader_laws.specs.Entered.{node-count}
+use Rattle.proof_rules.specs.Check.{nodeFault, premiseSequent, startSequent, proofWalk, proofAnswer}
+use Rattle.proof_meaning.specs.Rows.{passed-in}
+use Rattle.tree_rules.specs.Order.{Place, order}
+use Rattle.tree_rules.specs.Listing.{entered}
+use Rattle.tree_meaning.specs.WalkedLaws.{Agrees, all-entered, first-entered, walk-entered}
+use Rattle.tree_meaning.specs.BeforeWalk.{reading-none}
+use Rattle.tree_meaning.specs.Statements.{rootEntered, WalkCounts, EnteredWalk, EnteredCount, EnteredAll, FewNodes}
+
+module _ (ob pf : List ℕ) where
+  -- the walk from the root
+  root-agrees : Agrees (proofWalk (beside ob pf) (rootOf pf)) 0 (rootEntered ob pf) (order (beside ob pf) (rootOf pf) 0)
+  unfolding proofWalk
+  root-agrees = walk-entered (beside ob pf) (nodeFault (beside ob pf)) (premiseSequent (beside ob pf)) (rootOf pf) (startSequent (beside ob pf)) 0 0
+
+  -- the answer is the walk's where the reading refuses nothing, and else the reading's
+  answer-walk : reading 1 ob pf .refusal ≡ 0 → proofAnswer ob pf ≡ proofWalk (beside ob pf) (rootOf pf)
+  unfolding proofAnswer
+  answer-walk h = orAnswer-join (reading 1 ob pf) _ h
+
+  answer-none : eqb (reading 1 ob pf .refusal) 0 ≡ false → proofAnswer ob pf .nodes ≡ 0
+  unfolding proofAnswer orAnswer
+  answer-none h = simp (proofAnswer, orAnswer, h) (reading-none 1 ob pf)
+
+pub walk-counts : WalkCounts
+walk-counts ob pf = let w = root-agrees ob pf in (w .accepts, omega (arith, w .counts))
+
+pub entered-walk : EnteredWalk
+unfolding entered ifEq
+entered-walk ob pf = go (eqb (reading 1 ob pf .refusal) 0) refl
+  where
+    go : (t : Bool) → eqb (reading 1 ob pf .refusal) 0 ≡ t →
+        entered ob pf ≡ elim t as (λ x. List Place) [ true ↦ rootEntered ob pf .places | false ↦ [] ]
+    go true e = rw (answer-walk ob pf (eqb-true _ 0 e)) (first-entered (root-agrees ob pf))
+    go false e = rw (answer-none ob pf e)
+
+pub entered-count : EnteredCount
+unfolding ifEq
+entered-count ob pf = go (eqb (reading 1 ob pf .refusal) 0) refl
+  where
+    go : (t : Bool) → eqb (reading 1 ob pf .refusal) 0 ≡ t → length (entered ob pf) ≡ proofAnswer ob pf .nodes
+    go true e =
+        let same : entered ob pf ≡ rootEntered ob pf .places = entered-walk ob pf ∙ simp (ifEq, e) in
+        ap length same ∙ sym (walk-counts ob pf .1) ∙ ap (λ (a : Answer). a .nodes) (sym (answer-walk ob pf (eqb-true _ 0 e)))
+    go false e =
+        let same : entered ob pf ≡ [] = entered-walk ob pf ∙ simp (ifEq, e) in
+        ap length same ∙ sym (answer-none ob pf e)
+
+pub entered-all : EnteredAll
+unfolding proofAnswer ifEq
+entered-all ob pf h =
+    let both = orAnswer-parts (reading 1 ob pf) (proofWalk (beside ob pf) (rootOf pf)) h in
+    let passes = sym (walk-counts ob pf .0) ∙ eq-eqb _ 0 (both .1) in
+    entered-walk ob pf ∙ simp (ifEq, eq-eqb _ 0 (both .0)) (sym (all-entered (root-agrees ob pf) passes))
+
+-- the walk enters no more nodes than the proof has records
+module _ (ob pf : List ℕ) (h : reading 1 ob pf .refusal ≡ 0) where
+  few-records : countOf pf ≤ 3072
+  unfolding mostRecords ifEq
+  few-records =
+      let second = reading-parts 1 ob pf h .1 in
+      omega (arith, length-parts 1 pf (second .lengthOf) .2, header-parts pf (counts-parts ob pf (second .counts) .0) .1)
+
+  walk-few : proofWalk (beside ob pf) (rootOf pf) .nodes ≤ countOf pf
+  unfolding proofWalk
+  walk-few =
+      let read = reading-parts 1 ob pf h in
+      let count = node-count 1 (beside ob pf) (nodeFault (beside ob pf)) (premiseSequent (beside ob pf)) (λ Γ n e. passed-in (beside ob pf) Γ n e .rules)
+      (rootOf pf) (startSequent (beside ob pf)) 0 (read .1 .root) in
+      omega (arith, root-under 1 ob pf (read .0) (read .1))
+
+pub few-nodes : FewNodes
+few-nodes ob pf = go (eqb (reading 1 ob pf .refusal) 0) refl
+  where
+    go : (t : Bool) → eqb (reading 1 ob pf .refusal) 0 ≡ t → proofAnswer ob pf .nodes ≤ 3072
+    go true e =
+        let h = eqb-true _ 0 e in
+        omega (arith, walk-few ob pf h, few-records ob pf h, ap (λ (a : Answer). a .nodes) (answer-walk ob pf h))
+    go false e = omega (arith, answer-none ob pf e)
