@@ -43,7 +43,7 @@ unfolding secondReading placed demand orAnswer
 second-long mode ob s h = simp (secondReading, too-long mode s h, placed, demand, orAnswer)
 
 -- a value that all longer lists share is that of their first bytes
-cut : (most : ℕ) (f : List ℕ → Answer) (r : Answer) → ((s : List ℕ) → most < length s → f s ≡ r) → (s : List ℕ) → f (take (most + 1) s) ≡ f s
+pub cut : {A : Type 0} (most : ℕ) (f : List ℕ → A) (r : A) → ((s : List ℕ) → most < length s → f s ≡ r) → (s : List ℕ) → f (take (most + 1) s) ≡ f s
 cut most f r refused s = go (ltb most (length s)) refl
   where
     go : (b : Bool) → ltb most (length s) ≡ b → f (take (most + 1) s) ≡ f s
@@ -62,16 +62,16 @@ stays a w = go (eqb (a .refusal) 0) refl
     go false e = simp (orAnswer, e)
 
 -- an answer that begins by the places 1 to 12
-abbrev afterReading : ℕ → (List ℕ → List ℕ → Answer) → List ℕ → List ℕ → Answer
+abbrev pub afterReading : ℕ → (List ℕ → List ℕ → Answer) → List ℕ → List ℕ → Answer
 afterReading mode rest ob s = orAnswer (reading mode ob s) (rest ob s)
 
 -- A file longer than any accepted one is still answered rightly where one byte more than the limit is read, whatever follows the reading
 module _ (mode : ℕ) (rest : List ℕ → List ℕ → Answer) where
-  obligation-refused : (s ob : List ℕ) → mostBytes 0 < length ob → afterReading mode rest ob s ≡ answer 1 1 0 0
+  pub obligation-refused : (s ob : List ℕ) → mostBytes 0 < length ob → afterReading mode rest ob s ≡ answer 1 1 0 0
   unfolding reading orAnswer
   obligation-refused s ob h = simp (reading, obligation-long ob h, orAnswer)
 
-  second-refused : (ob s : List ℕ) → mostBytes mode < length s → afterReading mode rest ob s ≡ orAnswer (obligationReading ob) (answer 1 2 0 0)
+  pub second-refused : (ob s : List ℕ) → mostBytes mode < length s → afterReading mode rest ob s ≡ orAnswer (obligationReading ob) (answer 1 2 0 0)
   unfolding reading
   second-refused ob s h = simp (reading, second-long mode ob s h) (stays (obligationReading ob) (rest ob s))
 

@@ -3,7 +3,7 @@ use Prim.Native.Nat.{ℕ, _+_, _-_, _≤_}
 use mathlib.Core.Path.{_≡_, refl, sym, ap, _∙_}
 use mathlib.Core.List.{List, [], _++_, append-assoc, append-nil}
 use native.Mathlib.Omega.{arith}
-use lib.ListN.{length, take, drop, length-append, length-drop, drop-of-length-le}
+use lib.ListN.{length, take, drop, length-append, length-take, length-drop, drop-of-length-le}
 use lib.Seq.{take-all, take-length, take-at, drop-at, drop-drop, length-take-le}
 use Rattle.programs_text.specs.Text.{Appended}
 
@@ -46,3 +46,11 @@ appended-more before first middle second after at end last one two =
       stands = two .stands ∙ ap (λ (l : List ℕ). l ++ second) (one .stands) ∙ append-assoc (take at before) first second;
       kept = two .kept ∙ behind middle ∙ ap (drop (length second)) (one .kept) ∙ sym (behind before);
     }
+
+-- A text at the area's start: the slice up to its end is as long as it, and within the area.
+module _ (before text after : List ℕ) (end : ℕ) (w : Appended before 0 text after end) where
+  pub start-length : end ≡ length (take end after)
+  start-length = omega (arith, w .ends, ap length (w .stands))
+
+  pub start-within : end ≤ length after
+  start-within = omega (arith, start-length, length-take end after)

@@ -20,7 +20,7 @@ placed-none r f i = go (eqb r 0)
     go true = refl
     go false = refl
 
-or-none : (a b : Answer) → NoNodes a → NoNodes b → NoNodes (orAnswer a b)
+pub or-none : (a b : Answer) → NoNodes a → NoNodes b → NoNodes (orAnswer a b)
 unfolding orAnswer
 or-none a b p q = go (eqb (a .refusal) 0)
   where

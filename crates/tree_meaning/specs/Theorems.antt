@@ -1,7 +1,7 @@
 -- The proofs of `Statements`.
 use Prim.Native.Nat.{ℕ, _+_, _≤_}
 use mathlib.Core.Path.{_≡_, refl, sym, ap, _∙_}
-use mathlib.Core.List.{List, []}
+use mathlib.Core.List.{List, [], _++_, flatMap}
 use mathlib.Core.Bool.{Bool, true, false}
 use lib.Dec.{eqb}
 use lib.ListN.{length, take}
@@ -18,7 +18,7 @@ use Rattle.reader_laws.specs.Entered.{node-count}
 use Rattle.proof_rules.specs.Check.{nodeFault, premiseSequent, startSequent, proofWalk, proofAnswer}
 use Rattle.proof_meaning.specs.Rows.{passed-in}
 use Rattle.tree_rules.specs.Order.{Place, order}
-use Rattle.tree_rules.specs.Listing.{entered}
+use Rattle.tree_rules.specs.Listing.{heading, nodeLines, entered, ending, listing}
 use Rattle.tree_meaning.specs.WalkedLaws.{Agrees, all-entered, first-entered, walk-entered}
 use Rattle.tree_meaning.specs.BeforeWalk.{reading-none}
 use Rattle.tree_meaning.specs.Statements.{rootEntered, WalkCounts, EnteredWalk, EnteredCount, EnteredAll, FewNodes}
@@ -93,3 +93,8 @@ few-nodes ob pf = go (eqb (reading 1 ob pf .refusal) 0) refl
         let h = eqb-true _ 0 e in
         omega (arith, walk-few ob pf h, few-records ob pf h, ap (λ (a : Answer). a .nodes) (answer-walk ob pf h))
     go false e = omega (arith, answer-none ob pf e)
+
+-- a listing without nodes
+pub unwalked : (ob pf : List ℕ) (a : Answer) → proofAnswer ob pf ≡ a → a .nodes ≡ 0 → listing ob pf ≡ heading ++ ending a
+unfolding listing entered nodeLines flatMap
+unwalked ob pf a e none = rw (e, none)
