@@ -2,6 +2,8 @@
 
 pub mod bytes;
 pub mod desk;
+pub mod listing;
+pub mod proofs;
 pub mod shapes;
 pub mod tally;
 pub mod threads;
@@ -51,5 +53,13 @@ impl Asked {
             (Asked::CheckProof | Asked::CheckDerivation, _) | (_, 1..=12) => answer,
             _ => Answer::accepted(0),
         }
+    }
+}
+
+/// The number of generated cases: COMPARE_CASES, or the usual one.
+pub fn generated_cases(usual: u64) -> u64 {
+    match std::env::var("COMPARE_CASES") {
+        Ok(text) => text.parse().expect("COMPARE_CASES is a number"),
+        Err(_) => usual,
     }
 }

@@ -4,7 +4,7 @@ use compare::bytes::{case, raw};
 use compare::desk;
 use compare::tally::Tally;
 use compare::threads::{in_thread, in_threads};
-use compare::Asked;
+use compare::{generated_cases, Asked};
 use second::generate::large_cases;
 use second::generate::limits::limits;
 use second::reader::Second;
@@ -18,13 +18,12 @@ const RAW_CASES: u64 = 30_000;
 /// Each makes some seven pairs.
 const LARGE_CASES: u64 = 3_000;
 
-/// The number of generated cases for each question: COMPARE_CASES, or the usual one.
-fn generated_cases(asked: Asked) -> u64 {
-    match (std::env::var("COMPARE_CASES"), asked) {
-        (Ok(text), _) => text.parse().expect("COMPARE_CASES is a number"),
-        (Err(_), Asked::CheckProof | Asked::CheckDerivation) => CHECKED_CASES,
-        (Err(_), _) => CASES,
-    }
+/// The number of generated cases for a question: COMPARE_CASES, or the usual one.
+fn cases(asked: Asked) -> u64 {
+    generated_cases(match asked {
+        Asked::CheckProof | Asked::CheckDerivation => CHECKED_CASES,
+        Asked::ReadProof | Asked::ReadDerivation => CASES,
+    })
 }
 
 /// The questions that files of this kind are an input of.
@@ -94,7 +93,7 @@ fn compare_all(
 
 #[test]
 fn generated() {
-    compare_all("generated", generated_cases, |tally, asked, seed| {
+    compare_all("generated", cases, |tally, asked, seed| {
         let case = case(asked.kind(), seed);
         let label = format!("seed {seed} {}", case.label);
         tally.compare(&label, asked, &case.obligation, &case.second);
@@ -103,7 +102,7 @@ fn generated() {
 
 /// Accepted files of hundreds of nodes, and near misses of each.
 fn large(asked: Asked, what: &str) {
-    let count = LARGE_CASES.min(generated_cases(asked));
+    let count = LARGE_CASES.min(cases(asked));
     let tallies = in_threads(THREADS, |thread| {
         let mut tally = Tally::default();
         for seed in (thread..count).step_by(THREADS as usize) {

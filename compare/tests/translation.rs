@@ -2,58 +2,22 @@
 //! derivation check, which knows nothing of the translation, accepts what it writes; and no other byte is changed.
 
 use compare::bytes::{case, raw};
+use compare::proofs::{limit_proofs, shape_proofs, vector_proofs, Files};
 use compare::shapes::edges::{edges, past_members};
 use compare::shapes::walks::walks;
 use compare::shapes::Shape;
 use compare::tally::Tally;
 use compare::threads::{in_thread, in_threads};
 use compare::translation::{length, room, translated, Pair, Trials, MOST_ROOM};
-use compare::Asked;
+use compare::{generated_cases, Asked};
 use second::check_proof;
 use second::generate::large_cases;
-use second::generate::limits::limits;
 use second::reader::{read, Item, Second};
-use second::vectors::{vectors, FILES};
 
 const THREADS: u64 = 2;
 const CASES: u64 = 50_000;
 const LARGE_CASES: u64 = 400;
 const RAW_CASES: u64 = 20_000;
-
-/// The number of generated cases: COMPARE_CASES, or the usual one.
-fn generated_cases() -> u64 {
-    match std::env::var("COMPARE_CASES") {
-        Ok(text) => text.parse().expect("COMPARE_CASES is a number"),
-        Err(_) => CASES,
-    }
-}
-
-/// A label, an obligation and a proof.
-type Files = (String, Vec<u8>, Vec<u8>);
-
-fn vector_proofs() -> Vec<Files> {
-    FILES
-        .into_iter()
-        .flat_map(vectors)
-        .filter(|v| v.kind == Second::Proof)
-        .map(|v| (v.label, v.obligation, v.second))
-        .collect()
-}
-
-fn limit_proofs() -> Vec<Files> {
-    limits()
-        .into_iter()
-        .filter(|limit| limit.kind == Second::Proof)
-        .map(|limit| (limit.case.label, limit.case.obligation, limit.case.second))
-        .collect()
-}
-
-fn shape_proofs(shapes: Vec<Shape>) -> Vec<Files> {
-    shapes
-        .into_iter()
-        .map(|shape| (shape.name, shape.obligation, shape.second))
-        .collect()
-}
 
 /// The numbers below `count` shared out over the threads, up to the first few faults.
 fn trials(what: &str, count: u64, try_one: impl Fn(&mut Trials, u64) + Sync) -> Trials {
@@ -228,7 +192,7 @@ fn both_derivation_checks() {
 /// At odd places too, with a buffer one byte too short and one of at least what is needed.
 #[test]
 fn generated() {
-    let count = generated_cases();
+    let count = generated_cases(CASES);
     let trials = trials("translation of generated proofs", count, |trials, seed| {
         let case = case(Second::Proof, seed);
         let label = format!("seed {seed} {}", case.label);
@@ -252,7 +216,7 @@ fn generated() {
 /// Accepted proofs of hundreds of nodes, and near misses of each.
 #[test]
 fn large_proofs() {
-    let count = LARGE_CASES.min(generated_cases());
+    let count = LARGE_CASES.min(generated_cases(CASES));
     let what = "translation of large proofs and near misses";
     let trials = trials(what, count, |trials, seed| {
         for case in large_cases(Second::Proof, seed) {

@@ -6,7 +6,7 @@ use crate::proof::ensure;
 use crate::reader::{Book, Item};
 use crate::replace::{is_replaced, Put};
 use crate::sequent::Sequent;
-use crate::{Answer, RuleCounts};
+use crate::{Answer, RuleCounts, NO_NODES};
 
 const MOST_MEMBERS: usize = 2_048;
 const MOST_DEPTH: usize = 8_192;
@@ -124,7 +124,7 @@ struct Walk {
 
 /// Walks the derivation from its root; also counts the nodes of each rule.
 pub fn walk(mut book: Book) -> (Answer, RuleCounts) {
-    let mut counts: RuleCounts = [0; 81];
+    let mut counts = NO_NODES;
     let mut nodes = 0;
     let erased = book.arena.erase_all();
     let start: Vec<Id> = book

@@ -8,6 +8,7 @@ pub mod coverage;
 pub mod derivation;
 pub mod generate;
 pub mod kinds;
+mod listing;
 pub mod names;
 pub mod proof;
 pub mod reader;
@@ -18,6 +19,9 @@ pub mod vectors;
 pub mod weight;
 pub mod words;
 
+pub use listing::listing;
+
+use proof::Entered;
 use reader::Second;
 
 /// The four numbers: refusal, file, record, nodes.
@@ -62,17 +66,27 @@ impl std::fmt::Display for Answer {
 
 /// The proof check: all places from the length to the walk.
 pub fn check_proof(obligation: &[u8], proof: &[u8]) -> Answer {
+    walk_proof(obligation, proof).0
+}
+
+/// The proof check with the nodes that its walk entered: none where an earlier place refuses.
+fn walk_proof(obligation: &[u8], proof: &[u8]) -> (Answer, Vec<Entered>) {
     match reader::read(obligation, proof, Second::Proof) {
-        Err(refusal) => refusal,
-        Ok(book) => proof::walk(book).0,
+        Err(refusal) => (refusal, Vec::new()),
+        Ok(book) => proof::walk(book),
     }
 }
 
 /// The derivation check: all places from the length to the walk.
 pub fn check_derivation(obligation: &[u8], derivation: &[u8]) -> Answer {
+    walk_derivation(obligation, derivation).0
+}
+
+/// The derivation check with how many nodes of each rule its walk entered.
+fn walk_derivation(obligation: &[u8], derivation: &[u8]) -> (Answer, RuleCounts) {
     match reader::read(obligation, derivation, Second::Derivation) {
-        Err(refusal) => refusal,
-        Ok(book) => derivation::walk(book).0,
+        Err(refusal) => (refusal, NO_NODES),
+        Ok(book) => derivation::walk(book),
     }
 }
 
@@ -94,14 +108,24 @@ fn places(obligation: &[u8], second: &[u8], kind: Second) -> Answer {
 
 /// A check that also tells which rules it walked: `rules[k]` nodes of kind `k`.
 pub fn check_counting(obligation: &[u8], second: &[u8], kind: Second) -> (Answer, RuleCounts) {
-    match reader::read(obligation, second, kind) {
-        Err(refusal) => (refusal, [0; 81]),
-        Ok(book) => match kind {
-            Second::Proof => proof::walk(book),
-            Second::Derivation => derivation::walk(book),
-        },
+    match kind {
+        Second::Proof => {
+            let (answer, entered) = walk_proof(obligation, second);
+            (answer, counts(&entered))
+        }
+        Second::Derivation => walk_derivation(obligation, second),
     }
 }
 
 /// How many nodes of each rule kind a walk entered.
 pub type RuleCounts = [u64; 81];
+
+const NO_NODES: RuleCounts = [0; 81];
+
+fn counts(entered: &[Entered]) -> RuleCounts {
+    let mut counts = NO_NODES;
+    entered
+        .iter()
+        .for_each(|node| counts[node.kind as usize] += 1);
+    counts
+}

@@ -5,7 +5,7 @@ use crate::kinds::is_proof_rule;
 use crate::reader::{Book, Item};
 use crate::replace::{is_replaced, places_bear, Put};
 use crate::sequent::Sequent;
-use crate::{Answer, RuleCounts};
+use crate::Answer;
 
 const MOST_MEMBERS: usize = 1_024;
 /// A kind 22, its instance and four types.
@@ -55,8 +55,19 @@ enum Step {
 type Added = Vec<Id>;
 
 enum Task {
-    Enter { node: u32, added: Added },
+    Enter { node: u32, depth: u32, added: Added },
     Leave { length: usize },
+}
+
+/// A node as it stands in the file when the walk enters it, right or not.
+#[derive(Clone, Copy, Debug, PartialEq, Eq)]
+pub struct Entered {
+    /// The nodes above it on its branch.
+    pub depth: u32,
+    pub record: u32,
+    pub kind: u32,
+    /// The record of its first part, of whatever class; 0 if there is none.
+    pub first_part: u32,
 }
 
 struct Walk {
@@ -65,13 +76,12 @@ struct Walk {
     seen: Seen,
 }
 
-/// Walks the proof from its root; also counts the nodes of each rule.
-pub fn walk(book: Book) -> (Answer, RuleCounts) {
-    let mut counts: RuleCounts = [0; 81];
-    let mut nodes = 0;
+/// Walks the proof from its root; gives back the nodes that it entered too, in the order of the walk.
+pub fn walk(book: Book) -> (Answer, Vec<Entered>) {
     let start = [&book.hypotheses[..], &[book.negated_goal]].concat();
     let mut tasks = vec![Task::Enter {
         node: book.root,
+        depth: 0,
         added: start,
     }];
     let mut walk = Walk {
@@ -79,31 +89,30 @@ pub fn walk(book: Book) -> (Answer, RuleCounts) {
         sequent: Sequent::default(),
         seen: Seen::default(),
     };
+    let mut entered = Vec::new();
     while let Some(task) = tasks.pop() {
-        let (node, added) = match task {
-            Task::Enter { node, added } => (node, added),
+        let (node, depth, added) = match task {
+            Task::Enter { node, depth, added } => (node, depth, added),
             Task::Leave { length } => {
                 walk.sequent.shrink_to(length);
                 continue;
             }
         };
-        nodes += 1;
-        counts[walk.book.records[node as usize].kind as usize] += 1;
-        tasks.push(Task::Leave {
-            length: walk.sequent.len(),
-        });
+        entered.push(walk.entered(node, depth));
+        let length = walk.sequent.len();
+        tasks.push(Task::Leave { length });
         added.into_iter().for_each(|id| walk.sequent.add(id));
-        match walk.enter(node) {
-            Err(refusal) => return (Answer::new(refusal, 2, node as u64, nodes), counts),
-            Ok(premises) => tasks.extend(
-                premises
-                    .into_iter()
-                    .rev()
-                    .map(|(node, added)| Task::Enter { node, added }),
-            ),
-        }
+        let premises = match walk.enter(node) {
+            Ok(premises) => premises.into_iter().rev(),
+            Err(refusal) => {
+                let answer = Answer::new(refusal, 2, node as u64, entered.len() as u64);
+                return (answer, entered);
+            }
+        };
+        let depth = depth + 1;
+        tasks.extend(premises.map(|(node, added)| Task::Enter { node, depth, added }));
     }
-    (Answer::accepted(nodes), counts)
+    (Answer::accepted(entered.len() as u64), entered)
 }
 
 impl Walk {
@@ -123,6 +132,16 @@ impl Walk {
         let fits = longest.is_none_or(|more| self.sequent.len() + more <= MOST_MEMBERS);
         ensure(17, fits)?;
         Ok(premises.into_iter().zip(added).collect())
+    }
+
+    fn entered(&self, node: u32, depth: u32) -> Entered {
+        let record = self.book.records[node as usize];
+        Entered {
+            depth,
+            record: node,
+            kind: record.kind,
+            first_part: self.book.first_on_chain(record.parts()),
+        }
     }
 
     fn is_rule_node(&self, record: u32) -> bool {

@@ -292,6 +292,11 @@ impl Book {
         list
     }
 
+    /// The first record on a chain; 0 for the chain 0, as the words of record 0 are 0.
+    pub fn first_on_chain(&self, first: u32) -> u32 {
+        self.records[first as usize].a
+    }
+
     /// The identifier of a type, term, formula or kind 22.
     fn id(&self, record: u32) -> Id {
         self.items[record as usize].id().unwrap_or(NONE)

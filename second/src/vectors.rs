@@ -4,7 +4,10 @@ use crate::reader::Second;
 use crate::Answer;
 use std::path::Path;
 
+/// The files of answers.
 pub const FILES: [&str; 4] = ["readings.txt", "special.txt", "pairs.txt", "u1.txt"];
+/// The file of listings.
+pub const LISTINGS: &str = "u2.txt";
 
 pub struct Vector {
     pub label: String,
@@ -14,9 +17,22 @@ pub struct Vector {
     pub answer: Answer,
 }
 
-pub fn vectors(file: &str) -> Vec<Vector> {
+/// A proof with the whole output that lists its nodes.
+pub struct ListingVector {
+    pub label: String,
+    pub obligation: Vec<u8>,
+    pub proof: Vec<u8>,
+    pub output: Vec<u8>,
+}
+
+fn text_of(file: &str) -> String {
     let directory = Path::new(env!("CARGO_MANIFEST_DIR")).join("vectors");
-    let text = std::fs::read_to_string(directory.join(file)).expect("the vector file is there");
+    std::fs::read_to_string(directory.join(file)).expect("the vector file is there")
+}
+
+/// The cases of a file of answers.
+pub fn vectors(file: &str) -> Vec<Vector> {
+    let text = text_of(file);
     let lines: Vec<&str> = text.lines().filter(|l| !l.trim().is_empty()).collect();
     assert!(
         !lines.is_empty() && lines.len().is_multiple_of(4),
@@ -39,6 +55,34 @@ fn vector(lines: &[&str]) -> Vector {
         obligation: bytes_of(after("ob", lines[1])),
         second: bytes_of(after("second", lines[2])),
         answer: answer_of(after("answer", lines[3])),
+    }
+}
+
+/// The cases of a file of listings.
+pub fn listings(file: &str) -> Vec<ListingVector> {
+    let text = text_of(file);
+    let mut lines = text.split('\n');
+    let mut list = Vec::new();
+    while let Some(first) = lines.find(|line| !line.is_empty()) {
+        list.push(listing(first, &mut lines));
+    }
+    assert!(!list.is_empty(), "{file}: no case");
+    list
+}
+
+/// The case that starts with this line; its other lines are taken.
+fn listing<'a>(first: &str, lines: &mut impl Iterator<Item = &'a str>) -> ListingVector {
+    let label = after("case", first).strip_suffix(" tree");
+    let mut next = || lines.next().expect("a further line of the case");
+    let obligation = bytes_of(after("ob", next()));
+    let proof = bytes_of(after("second", next()));
+    let count: usize = after("lines", next()).parse().expect("a number of lines");
+    let output: String = (0..count).flat_map(|_| [next(), "\n"]).collect();
+    ListingVector {
+        label: label.expect("a case of kind tree").to_string(),
+        obligation,
+        proof,
+        output: output.into_bytes(),
     }
 }
 

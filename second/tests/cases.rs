@@ -1,7 +1,7 @@
-//! The cases D1 to D12 from their words, and inputs for readings that need many records.
+//! The cases D1 to D12 from their words, with their listings, and inputs for readings that need many records.
 
 use second::words::{to_bytes, Record};
-use second::{check_derivation, check_proof, Answer};
+use second::{check_derivation, check_proof, listing, Answer};
 
 type Words = [u32; 4];
 
@@ -42,63 +42,107 @@ const D1_PROOF: [Words; 12] = [
     [43, 15, 16, 0],
 ];
 
-/// D1 with one record of the proof changed; record 0 is the header.
-fn d1_with(record: usize, words: Words) -> Answer {
+/// D1's proof with one record changed; record 0 is the header.
+fn d1_with(record: usize, words: Words) -> Vec<u8> {
     let mut proof = D1_PROOF;
     let place = if record == 0 { 0 } else { record - 6 };
     proof[place] = words;
-    check_proof(&file(&D1_OBLIGATION), &file(&proof))
+    file(&proof)
+}
+
+/// D1's proof as each of D1 to D11 has it.
+fn d1_to_d11() -> [Vec<u8>; 11] {
+    [
+        file(&D1_PROOF),
+        d1_with(0, [1, 11, 12, 6]),
+        d1_with(13, [1, 4, 0, 0]),
+        d1_with(12, [36, 11, 0, 0]),
+        d1_with(12, [34, 11, 0, 0]),
+        d1_with(9, [20, 8, 2, 0]),
+        d1_with(7, [2, 83, 0, 0]),
+        d1_with(7, [2, 99, 1, 0]),
+        d1_with(7, [2, 35_267, 0, 0]),
+        d1_with(7, [2, 8_506_437, 0, 0]),
+        file(&D1_PROOF)[..15].to_vec(),
+    ]
+}
+
+const D12_OBLIGATION: [Words; 9] = [
+    [1, 8, 0, 8],
+    [2, 83, 0, 0],
+    [3, 1, 0, 0],
+    [2, 99, 0, 0],
+    [7, 2, 3, 0],
+    [9, 0, 2, 0],
+    [20, 5, 4, 0],
+    [19, 2, 6, 0],
+    [18, 7, 0, 0],
+];
+
+const D12_PROOF: [Words; 10] = [
+    [1, 9, 17, 8],
+    [20, 4, 4, 0],
+    [18, 9, 0, 0],
+    [1, 10, 0, 0],
+    [35, 11, 0, 0],
+    [1, 9, 0, 0],
+    [1, 4, 0, 13],
+    [1, 8, 0, 14],
+    [1, 12, 0, 0],
+    [43, 15, 16, 0],
+];
+
+/// Each of D1 to D12 as (name, obligation, proof).
+fn d1_to_d12() -> Vec<(String, Vec<u8>, Vec<u8>)> {
+    let obligations = [vec![file(&D1_OBLIGATION); 11], vec![file(&D12_OBLIGATION)]].concat();
+    let proofs = [&d1_to_d11()[..], &[file(&D12_PROOF)]].concat();
+    (1..)
+        .zip(obligations.into_iter().zip(proofs))
+        .map(|(number, (obligation, proof))| (format!("D{number}"), obligation, proof))
+        .collect()
 }
 
 #[test]
-fn d1_to_d11() {
-    let d1 = check_proof(&file(&D1_OBLIGATION), &file(&D1_PROOF));
-    assert_eq!(d1, answer([0, 0, 0, 2]), "D1");
-    let changed: [(&str, usize, Words, [u64; 4]); 9] = [
-        ("D2", 0, [1, 11, 12, 6], [12, 2, 12, 0]),
-        ("D3", 13, [1, 4, 0, 0], [15, 2, 17, 1]),
-        ("D4", 12, [36, 11, 0, 0], [13, 2, 12, 2]),
-        ("D5", 12, [34, 11, 0, 0], [14, 2, 12, 2]),
-        ("D6", 9, [20, 8, 2, 0], [5, 2, 9, 0]),
-        ("D7", 7, [2, 83, 0, 0], [0, 0, 0, 2]),
-        ("D8", 7, [2, 99, 1, 0], [8, 2, 8, 0]),
-        ("D9", 7, [2, 35_267, 0, 0], [0, 0, 0, 2]),
-        ("D10", 7, [2, 8_506_437, 0, 0], [0, 0, 0, 2]),
+fn d_cases() {
+    let wanted = [
+        [0, 0, 0, 2],
+        [12, 2, 12, 0],
+        [15, 2, 17, 1],
+        [13, 2, 12, 2],
+        [14, 2, 12, 2],
+        [5, 2, 9, 0],
+        [0, 0, 0, 2],
+        [8, 2, 8, 0],
+        [0, 0, 0, 2],
+        [0, 0, 0, 2],
+        [1, 2, 0, 0],
+        [16, 2, 17, 1],
     ];
-    for (name, record, words, wanted) in changed {
-        assert_eq!(d1_with(record, words), answer(wanted), "{name}");
+    for ((name, obligation, proof), numbers) in d1_to_d12().into_iter().zip(wanted) {
+        assert_eq!(check_proof(&obligation, &proof), answer(numbers), "{name}");
     }
-    let d11 = check_proof(&file(&D1_OBLIGATION), &file(&D1_PROOF)[..15]);
-    assert_eq!(d11, answer([1, 2, 0, 0]), "D11");
 }
 
 #[test]
-fn d12() {
-    let obligation = [
-        [1, 8, 0, 8],
-        [2, 83, 0, 0],
-        [3, 1, 0, 0],
-        [2, 99, 0, 0],
-        [7, 2, 3, 0],
-        [9, 0, 2, 0],
-        [20, 5, 4, 0],
-        [19, 2, 6, 0],
-        [18, 7, 0, 0],
+fn d_listings() {
+    let wanted = [
+        "tree 1\n0 17 43 6\n1 12 35 10\n",
+        "tree 1\nrefused 12 2 12 0\n",
+        "tree 1\n0 17 43 6\nrefused 15 2 17 1\n",
+        "tree 1\n0 17 43 6\n1 12 36 10\nrefused 13 2 12 2\n",
+        "tree 1\n0 17 43 6\n1 12 34 10\nrefused 14 2 12 2\n",
+        "tree 1\nrefused 5 2 9 0\n",
+        "tree 1\n0 17 43 6\n1 12 35 10\n",
+        "tree 1\nrefused 8 2 8 0\n",
+        "tree 1\n0 17 43 6\n1 12 35 10\n",
+        "tree 1\n0 17 43 6\n1 12 35 10\n",
+        "tree 1\nrefused 1 2 0 0\n",
+        "tree 1\n0 17 43 8\nrefused 16 2 17 1\n",
     ];
-    let proof = [
-        [1, 9, 17, 8],
-        [20, 4, 4, 0],
-        [18, 9, 0, 0],
-        [1, 10, 0, 0],
-        [35, 11, 0, 0],
-        [1, 9, 0, 0],
-        [1, 4, 0, 13],
-        [1, 8, 0, 14],
-        [1, 12, 0, 0],
-        [43, 15, 16, 0],
-    ];
-    let found = check_proof(&file(&obligation), &file(&proof));
-    assert_eq!(found, answer([16, 2, 17, 1]));
+    for ((name, obligation, proof), lines) in d1_to_d12().into_iter().zip(wanted) {
+        let found = String::from_utf8(listing(&obligation, &proof));
+        assert_eq!(found.as_deref(), Ok(lines), "{name}");
+    }
 }
 
 /// ⊥ is goal and hypothesis, `hypotheses` times; further hypotheses are ⊥∧⊥ and ¬¬⊥, once each.

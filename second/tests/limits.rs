@@ -25,3 +25,23 @@ fn limits_have_their_answers() {
     assert!(list.len() > 1_000);
     assert!(differ.is_empty(), "{}", differ.join("\n"));
 }
+
+/// The proofs of the most nodes are as long as a file may be, and the deepest of each sort are there.
+#[test]
+fn the_most_nodes_and_the_deepest() {
+    let list = limits();
+    let proofs = |word: &'static str| {
+        let proofs = list.iter().filter(|limit| limit.kind == Second::Proof);
+        proofs.filter(move |limit| limit.case.label.contains(word))
+    };
+    assert_eq!(proofs(" 1536 nodes ").count(), 6);
+    for limit in proofs(" 1536 nodes ") {
+        assert_eq!(limit.case.second.len(), 16 * 3_073, "{}", limit.case.label);
+        assert_eq!(limit.answer.nodes, 1_536);
+    }
+    let accepted = |word| proofs(word).filter(|limit| limit.answer.is_accepted());
+    assert_eq!(accepted(" 1536 nodes ").count(), 3);
+    assert_eq!(accepted(" 1024 nodes deep").count(), 3);
+    assert_eq!(proofs(" 1025 nodes deep").count(), 3);
+    assert!(proofs(" 1025 nodes deep").all(|limit| limit.answer.refusal == 17));
+}

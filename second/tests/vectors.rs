@@ -1,8 +1,8 @@
 //! Every case of the vector files.
 
 use second::reader::Second;
-use second::vectors::vectors;
-use second::{check_derivation, check_proof};
+use second::vectors::{listings, vectors, LISTINGS};
+use second::{check_derivation, check_proof, listing};
 
 fn run(file: &str) {
     let cases = vectors(file);
@@ -41,4 +41,16 @@ fn pairs() {
 #[test]
 fn u1() {
     run("u1.txt");
+}
+
+#[test]
+fn u2() {
+    let cases = listings(LISTINGS);
+    println!("{LISTINGS}: {} cases", cases.len());
+    assert_eq!(cases.len(), 173);
+    for case in cases {
+        let found = listing(&case.obligation, &case.proof);
+        let [wanted, found] = [&case.output, &found].map(|text| String::from_utf8_lossy(text));
+        assert_eq!(found, wanted, "{}", case.label);
+    }
 }

@@ -2,6 +2,7 @@
 
 use super::expr::*;
 use super::gadgets::{weigh_one, Bench, Place};
+use super::proof_limits::proof_limits;
 use super::rng::Rng;
 use super::root_damage::odd_hypothesis;
 use super::spelling::{self, accent_of, accents};
@@ -41,7 +42,7 @@ pub fn limits() -> Vec<Limit> {
     }
     proof_members(&mut list);
     type_counts(&mut list);
-    deep_proof(&mut list);
+    list.extend(proof_limits());
     derivation_members(&mut list);
     derivation_depth(&mut list);
     deep_binders(&mut list);
@@ -63,7 +64,12 @@ fn name_of(kind: Second) -> &'static str {
     }
 }
 
-fn limit(kind: Second, label: String, files: (Vec<u8>, Vec<u8>), answer: Answer) -> Limit {
+pub(super) fn limit(
+    kind: Second,
+    label: String,
+    files: (Vec<u8>, Vec<u8>),
+    answer: Answer,
+) -> Limit {
     Limit {
         kind,
         case: Case {
@@ -509,7 +515,7 @@ fn hypotheses(list: &mut Vec<Limit>, kind: Second) {
 // ---------------------------------------------------------------- walks
 
 /// Writes hypotheses, ¬goal and tree; gives back the files and each node's record.
-fn write(
+pub(super) fn write(
     world: &World,
     hypotheses: &[Expr],
     negated_goal: &Expr,
@@ -526,7 +532,7 @@ fn write(
 }
 
 /// Adds a node with one premise to be, which is given back.
-fn extend(tree: &mut Tree, at: usize, kind: u32, parts: Vec<Expr>) -> usize {
+pub(super) fn extend(tree: &mut Tree, at: usize, kind: u32, parts: Vec<Expr>) -> usize {
     tree.nodes[at].kind = kind;
     tree.nodes[at].parts = parts;
     let next = tree.add(32, vec![]);
@@ -635,29 +641,6 @@ fn type_counts(list: &mut Vec<Limit>) {
             let label = format!("{types} types for a kind 22 of count {count}");
             list.push(limit(Second::Proof, label, files, answer));
         }
-    }
-}
-
-/// As deep as a proof file goes: there is no limit of depth for it.
-fn deep_proof(list: &mut Vec<Limit>) {
-    let world = World::bare();
-    let twice = not(not(bottom()));
-    for nodes in [900, 1_000] {
-        let mut tree = Tree::default();
-        let mut at = tree.add(32, vec![]);
-        for _ in 1..nodes {
-            at = extend(&mut tree, at, 38, vec![twice.clone()]);
-        }
-        let (files, _) = write(
-            &world,
-            &[bottom(), twice.clone()],
-            &not(top()),
-            &tree,
-            false,
-        );
-        let label = format!("{nodes} nodes deep");
-        let answer = Answer::accepted(nodes);
-        list.push(limit(Second::Proof, label, files, answer));
     }
 }
 

@@ -13,6 +13,7 @@ pub mod limits;
 pub mod marks;
 pub mod near;
 pub mod odd;
+pub mod proof_limits;
 pub mod proofs;
 pub mod refute;
 pub mod rng;
