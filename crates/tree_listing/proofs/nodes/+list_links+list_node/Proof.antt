@@ -48,13 +48,13 @@ pub +list-links+list-node-spec : {M : Type 1} → statement M
     -- lower-at-requires
     (λ c κs. search needs)
     -- list-node-requires
-    (λ c κs. (number-falls _ _ _ 1 t (c .before .before .before .before .before .before .pre .0) (c .before .before .if1 .left) (c .before .lower-at .ensures), search needs))
+    (λ c κs. (number-falls _ _ _ _ t (c .before .before .before .before .before .before .pre .0) (c .before .before .if1 .left) (c .before .lower-at .ensures), search needs))
     -- lower-at-requires-2
     (λ c κs. search needs)
     -- list-links-requires
     (λ c κs.
     let first = c .before .before .before .before .list-node .ensures in (
-      number-falls _ _ _ 3 t (c .before .before .before .before .before .before .before .before .before .before .before .pre .0) (c .before .before .before .before .before .before .before .if1 .left) (c .before .lower-at2 .ensures),
+      number-falls _ _ _ _ t (c .before .before .before .before .before .before .before .before .before .before .before .pre .0) (c .before .before .before .before .before .before .before .if1 .left) (c .before .lower-at2 .ensures),
       (omega (arith, first .room), omega (arith, first .remain)),
     ))
     -- same-length
@@ -78,7 +78,7 @@ pub +list-links+list-node-spec : {M : Type 1} → statement M
     (λ c. omega arith)
     -- list-links-requires
     (λ c κs. (
-      number-falls _ _ _ 2 t (c .before .before .before .before .before .before .before .before .before .before .before .pre .0) (c .before .before .before .before .before .before .before .if1 .left) (c .before .lower-at .ensures),
+      number-falls _ _ _ _ t (c .before .before .before .before .before .before .before .before .before .before .before .pre .0) (c .before .before .before .before .before .before .before .if1 .left) (c .before .lower-at .ensures),
       (omega (arith, c .before .before .before .before .append-node .ensures .1), omega arith),
     ))
     -- same-length
