@@ -32,18 +32,9 @@ fn list_links(
         return Listed { end: at, left };
     }
     let x = trees::lower_at(obligation, proof, m, c, 1);
-    let first = list_node(obligation, proof, m, area, at, left, depth, x);
-    let rest = trees::lower_at(obligation, proof, m, c, 3);
-    list_links(
-        obligation,
-        proof,
-        m,
-        area,
-        first.end,
-        first.left,
-        depth,
-        rest,
-    )
+    let done = list_node(obligation, proof, m, area, at, left, depth, x);
+    let next = trees::lower_at(obligation, proof, m, c, 3);
+    list_links(obligation, proof, m, area, done.end, done.left, depth, next)
 }
 
 // Lists the nodes from node n on, which stands at this depth, up to `left` of them, into the area from place `at` on.

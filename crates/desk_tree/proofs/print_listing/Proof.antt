@@ -12,6 +12,6 @@ print-listing-spec = tie.close (tie.spec
     -- slice-aggregate-write-listing
     (λ c. start-length _ _ _ _ (c .before .put-listing .ensures))
     -- write-listing-requires
-    (λ c κs. search needs)
+    (λ c κs. c .before .put-listing .ensures .stands)
     -- returns
     (λ c. search needs))
