@@ -86,6 +86,12 @@ static const words medoc[] = {{1, 8, 0, 8}, {2, 83, 0, 0}, {3, 1, 0, 0}, {2, 168
 static const words medoc_again[] = {{1, 11, 19, 8}, {2, 2177656141u, 6516580, 0}, {7, 2, 9, 0}, {20, 10, 10, 0}, {18, 11, 0, 0}, {1, 12, 0, 0},
                                     {35, 13, 0, 0}, {1, 11, 0, 0}, {1, 10, 0, 15}, {1, 8, 0, 16}, {1, 14, 0, 0}, {43, 17, 18, 0}};
 
+/* The goal ⊥ from ⊤⇒⊥, by a proof with branches. */
+static const words from_true[] = {{1, 5, 5, 4}, {15, 0, 0, 0}, {14, 0, 0, 0}, {17, 1, 2, 0}, {18, 2, 0, 0}, {1, 3, 0, 0}};
+
+static const words branches[] = {{1, 11, 16, 5}, {1, 3, 0, 0}, {33, 0, 0, 0}, {32, 0, 0, 0}, {1, 8, 0, 0},  {1, 7, 0, 9},
+                                 {41, 6, 10, 0}, {1, 1, 0, 0}, {33, 0, 0, 0}, {1, 13, 0, 0}, {1, 11, 0, 14}, {37, 12, 15, 0}};
+
 #define BASE(derivation, obligation, second) {derivation, obligation, COUNT(obligation), second, COUNT(second)}
 
 static const struct base d1 = BASE(false, obligation1, proof1);
@@ -96,8 +102,10 @@ static const struct base e3 = BASE(true, obligation12, still_there);
 static const struct base e17 = BASE(true, true_goal, one_node);
 static const struct base m1 = BASE(false, medoc, medoc_again);
 static const struct base m3 = BASE(true, medoc, medoc_again);
+static const struct base t1 = BASE(false, from_true, branches);
 
-/* D1 to D12 of paper 01, derivations, and both spellings of an accent: E CC 81 in a derivation, the two Médocs, another name for one of them. */
+/* D1 to D12 of paper 01, derivations, and both spellings of an accent: E CC 81 in a derivation, the two Médocs, another name for one of them; a proof with
+ * branches, and one refused in its second branch. */
 static const struct sample samples[] = {
     {"d1", &d1, 0, {0}, 0, {0, 0, 0, 2}},
     {"d2", &d1, 6, {1, 11, 12, 6}, 0, {12, 2, 12, 0}},
@@ -132,6 +140,8 @@ static const struct sample samples[] = {
     {"m1", &m1, 0, {0}, 0, {9, 2, 10, 0}},
     {"m2", &m1, 9, {2, 8506437, 0, 0}, 0, {0, 0, 0, 2}},
     {"m3", &m3, 0, {0}, 0, {9, 2, 10, 0}},
+    {"t1", &t1, 0, {0}, 0, {0, 0, 0, 5}},
+    {"t2", &t1, 8, {33, 0, 0, 0}, 0, {14, 2, 8, 4}},
 };
 
 static void put_record(uint8_t *bytes, const words record)
@@ -171,6 +181,20 @@ static size_t put_deep(uint8_t *bytes, uint32_t depth)
     for (; root < 2 * depth + 2; root += 2) {
         put_record(bytes + 16 * (root - 2), (words){1, root, 0, 0});
         put_record(bytes + 16 * (root - 1), (words){65, 0, root + 1, 0});
+    }
+    put_record(bytes, (words){1, root - 3, root, 3});
+    return 16 * (root - 2);
+}
+
+/* Writes a proof of e17's goal that is so many nodes deep: the rule for ⊥ below nodes that each take ⊥ from ¬¬⊥. Its length. */
+static inline size_t put_deep_proof(uint8_t *bytes, uint32_t depth)
+{
+    uint32_t root = 5;
+    put_record(bytes + 16, (words){1, 3, 0, 0});
+    put_record(bytes + 32, (words){32, 0, 0, 0});
+    for (; root < 2 * depth + 3; root += 2) {
+        put_record(bytes + 16 * (root - 2), (words){1, root, 0, 0});
+        put_record(bytes + 16 * (root - 1), (words){38, 4, root + 1, 0});
     }
     put_record(bytes, (words){1, root - 3, root, 3});
     return 16 * (root - 2);

@@ -20,21 +20,24 @@ expect() {
     fi
 }
 
-# use KIND: from here on the program for a kind of second file is run, or the one that translates.
+# use WHAT: from here on the program for a kind of second file is run, or the one that translates or that lists proofs. A refusal's four numbers stand behind
+# `refusal`.
 use() {
     kind=$1
-    case $kind in
+    refusal=
+    case $1 in
     proof) program=desk ;;
     derivation) program=desk_derivation ;;
     translation) program=desk_translate ;;
+    tree) program=desk_tree kind=proof refusal=$'tree 1\nrefused ' ;;
     esac
 }
 
-# answers WHAT LINE ARGUMENT..: the line on standard output, with its end, and nothing on standard error.
+# answers WHAT LINES ARGUMENT..: the lines on standard output, with their end, and nothing on standard error.
 answers() {
-    local what=$1 line=$2
+    local what=$1 lines=$2
     shift 2
-    expect "$what" "$line"$'\n.' "$("target/bin/$program" "$@" 2>&1 && echo .)"
+    expect "$what" "$lines"$'\n.' "$("target/bin/$program" "$@" 2>&1 && echo .)"
 }
 
 # says WHAT MESSAGE ARGUMENT..: the message on standard error, and nothing on standard output.
@@ -51,24 +54,37 @@ padded() { cp "$1" "$work/padded" && truncate -s "$2" "$work/padded"; }
 # in_parts FILE: the file, with a pause after its first bytes.
 in_parts() { head -c 50 "$1" && sleep 0.2 && tail -c +51 "$1"; }
 
-# tries KIND NAME LINE LONGEST: an accepted sample with its line, changed in its length, in parts, and not to be read; the bytes of a longest second file.
+# fails WHAT MESSAGE OUTPUT ARGUMENT..: the message on standard error where standard output is that one, or closed.
+fails() {
+    local what=$1 message=$2 output=$3
+    shift 3
+    if [ "$output" = closed ]; then
+        expect "$what" "$message" "$("target/bin/$program" "$@" 2>&1 >&-)"
+    else
+        expect "$what" "$message" "$("target/bin/$program" "$@" 2>&1 >"$output")"
+    fi
+}
+
+# tries WHAT NAME LINES LONGEST: an accepted sample with its lines, changed in its length, in parts, and not to be read; the bytes of a longest second file.
 tries() {
     use "$1"
-    local obligation=$samples/$2.obligation second=$samples/$2.$1 line=$3 longest=$4 usage length
+    local obligation=$samples/$2.obligation second=$samples/$2.$kind lines=$3 longest=$4 usage length
     padded "$obligation" 16384
-    answers "an obligation of 1,024 records, its count another" "2 1 0 0" "$work/padded" "$second"
+    answers "an obligation of 1,024 records, its count another" "${refusal}2 1 0 0" "$work/padded" "$second"
     for length in 16385 16400 1000000; do
         padded "$obligation" "$length"
-        answers "an obligation of $length bytes" "1 1 0 0" "$work/padded" "$second"
+        answers "an obligation of $length bytes" "${refusal}1 1 0 0" "$work/padded" "$second"
     done
     padded "$second" "$longest"
-    answers "a $kind of $longest bytes, its count another" "2 2 0 0" "$obligation" "$work/padded"
+    answers "a $kind of $longest bytes, its count another" "${refusal}2 2 0 0" "$obligation" "$work/padded"
     for length in $((longest + 1)) $((longest + 16)) $((longest + 1000000)); do
         padded "$second" "$length"
-        answers "a $kind of $length bytes" "1 2 0 0" "$obligation" "$work/padded"
+        answers "a $kind of $length bytes" "${refusal}1 2 0 0" "$obligation" "$work/padded"
     done
-    answers "an empty obligation" "1 1 0 0" /dev/null "$second"
-    answers "a $kind that comes in parts" "$line" "$obligation" <(in_parts "$second")
+    answers "an empty obligation" "${refusal}1 1 0 0" /dev/null "$second"
+    answers "a $kind that comes in parts" "$lines" "$obligation" <(in_parts "$second")
+    fails "a closed output" "standard output: Bad file descriptor" closed "$obligation" "$second"
+    fails "a full output" "standard output: No space left on device" /dev/full "$obligation" "$second"
     says "no file" "$work/none: No such file or directory" "$work/none" "$second"
     says "no second file" "$work/none: No such file or directory" "$obligation" "$work/none"
     says "a directory" "$work: Is a directory" "$obligation" "$work"
@@ -125,6 +141,32 @@ translations() {
     expect "a file beside the folder" "" "$(ls -d "$folder.part" 2>/dev/null)"
 }
 
+# deep_lines DEPTH COUNT: the lines of the first nodes of a proof so deep: its leaf is record 5, each node above it two records on.
+deep_lines() {
+    echo "tree 1"
+    awk -v depth="$1" -v count="$2" 'BEGIN {
+        for (i = 0; i < count; i++) print i, 5 + 2 * (depth - 1 - i), i < depth - 1 ? "38 3" : "32 0"
+    }'
+}
+
+# trees: every stored proof listed; the deepest proof, and one too deep; a long text into a slow pipe, and into a file that may have 4 KiB.
+trees() {
+    use tree
+    local of name line deep=("$samples/e17.obligation" "$work/deep.proof") wanted
+    while read -r of name line; do
+        if [ "$of" = proof ]; then answers "$name listed" "$(cat "tests/trees/$name")" "$samples/$name.obligation" "$samples/$name.proof"; fi
+    done <"$samples/expected"
+    target/samples_c "$work" proof 1025
+    answers "a proof 1,025 nodes deep listed" "$(deep_lines 1025 1024)"$'\nrefused 17 2 7 1024' "${deep[@]}"
+    target/samples_c "$work" proof 1024
+    wanted=$(deep_lines 1024 1024)
+    answers "a proof 1,024 nodes deep listed" "$wanted" "${deep[@]}"
+    expect "a listing into a slow pipe" "$wanted"$'\n.' "$(target/bin/desk_tree "${deep[@]}" 2>&1 | { sleep 0.2 && cat && echo .; })"
+    expect "a listing into a file that is too small" "standard output: File too large" \
+        "$(trap '' XFSZ && ulimit -f 4 && target/bin/desk_tree "${deep[@]}" 2>&1 >"$work/out")"
+    expect "the part that is there" "$(head -c 4096 <<<"$wanted")" "$(cat "$work/out")"
+}
+
 while read -r of name line; do
     use "$of"
     answers "$name" "$line" "$samples/$name.obligation" "$samples/$name.$kind"
@@ -132,14 +174,17 @@ done <"$samples/expected"
 
 tries proof d1 "0 0 0 2" 49168
 tries derivation e1 "0 0 0 26" 3200016
+tries tree t1 "$(cat tests/trees/t1)" 49168
 
 # The deepest derivation, and one too deep.
-target/samples_c "$work" 8192
+use derivation
+target/samples_c "$work" derivation 8192
 answers "a derivation 8,192 nodes deep" "0 0 0 8192" "$samples/e17.obligation" "$work/deep.derivation"
-target/samples_c "$work" 8193
+target/samples_c "$work" derivation 8193
 answers "a derivation 8,193 nodes deep" "18 2 4 8193" "$samples/e17.obligation" "$work/deep.derivation"
 
 translations
+trees
 
 echo "$passed passed, $failed failed"
 [ "$failed" -eq 0 ]

@@ -1,5 +1,5 @@
 /* `samples DIR` writes the files of the samples there, as they stand in tests/samples, and the answer of each in `expected`.
- * `samples DIR DEPTH` writes a derivation that is so deep there, `deep.derivation`; its obligation is that of e17. */
+ * `samples DIR KIND DEPTH` writes a derivation or a proof that is so deep there, `deep.KIND`; its obligation is that of e17. */
 #include <stdio.h>
 #include <stdlib.h>
 
@@ -41,9 +41,10 @@ int main(int count, char **arguments)
     static uint8_t deep[TOO_DEEP_BYTES];
     if (count == 2)
         return write_samples(arguments[1]);
-    uint32_t depth = count == 3 ? (uint32_t)atol(arguments[2]) : 0;
+    uint32_t depth = count == 4 ? (uint32_t)atol(arguments[3]) : 0;
     if (depth < 1 || depth > TOO_DEEP)
         return 2;
-    write_file(arguments[1], "deep", "derivation", deep, put_deep(deep, depth));
+    bool derivation = strcmp(arguments[2], "derivation") == 0;
+    write_file(arguments[1], "deep", arguments[2], deep, derivation ? put_deep(deep, depth) : put_deep_proof(deep, depth));
     return 0;
 }
