@@ -16,7 +16,7 @@ use Rattle.programs_lines.specs.Lines.{numbersLine, line, EndsIn}
 use Rattle.programs_lines.specs.LineLaws.{line-slice}
 use Rattle.programs_text.specs.Text.{Appended}
 use Rattle.programs_text.specs.TextLaws.{appended-none, appended-more}
-use Rattle.tree_rules.specs.Order.{place}
+use Rattle.tree_rules.specs.Order.{nodeAt}
 use Rattle.tree_rules.specs.Listing.{firstPart, nodeLine, refused, ending}
 
 -- the item of the first link, and of no link none
@@ -31,7 +31,7 @@ first-part-is rd n link r e h = h ∙ first-item rd link ∙ ap (λ (c : ℕ). g
 
 -- the line of a node has its four numbers
 pub node-line : (rd : Reader) (before after : List ℕ) (at depth n kind part end : ℕ) → kind ≡ kindAt rd n → part ≡ firstPart rd n →
-    Appended before at (numbersLine depth n kind part) after end → Appended before at (nodeLine rd (place depth n)) after end
+    Appended before at (numbersLine depth n kind part) after end → Appended before at (nodeLine rd (nodeAt depth n)) after end
 unfolding nodeLine
 node-line rd before after at depth n kind part end ek ep w = rw (← ek, ← ep) w
 

@@ -10,7 +10,7 @@ ghost use lib.ListN.{length};
 ghost use Rattle.reader.specs.Words.{word};
 ghost use Rattle.programs_lines.specs.Lines.{numbersLine};
 ghost use Rattle.programs_text.specs.Text.{Appended};
-ghost use Rattle.tree_rules.specs.Order.{place};
+ghost use Rattle.tree_rules.specs.Order.{nodeAt};
 ghost use Rattle.tree_rules.specs.Listing.{firstPart, nodeLine, ending};
 
 // Puts a line of four numbers into the area from place `at` on; where it ends.
@@ -42,7 +42,7 @@ pub fn append_node(
     n: usize,
 ) -> usize
     requires { ⌜ at + 84 ≤ length (now area) ⌝ }
-    ensures { λ r. ⌜ Appended (now (area .entry)) at (nodeLine (word (now (obligation .entry)) (now (proof .entry)) m) (place depth n)) (now (area .exit)) r × (r ≤ at + 84) ⌝ }
+    ensures { λ r. ⌜ Appended (now (area .entry)) at (nodeLine (word (now (obligation .entry)) (now (proof .entry)) m) (nodeAt depth n)) (now (area .exit)) r × (r ≤ at + 84) ⌝ }
 {
     let kind = kinds::kind_at(obligation, proof, m, n);
     let part = first_part(obligation, proof, m, n);

@@ -11,42 +11,42 @@ use Rattle.programs_text.specs.Text.{Appended}
 use Rattle.programs_text.specs.TextLaws.{appended-none, appended-more}
 use Rattle.reader.specs.Trees.{lower}
 use Rattle.reader.specs.TreeLaws.{lower-below}
-use Rattle.tree_rules.specs.Order.{Place, place, order}
+use Rattle.tree_rules.specs.Order.{Node, nodeAt, order}
 use Rattle.tree_rules.specs.OrderLaws.{orderFrom, order-zero, order-node, order-end, order-link}
 use Rattle.tree_rules.specs.Listing.{nodeLine, nodeLines}
 
--- The lines of the first `left` of the places stand in an area that held `before` from place `at` on, and end at place `end`. After them `rest` nodes are left
+-- The lines of the first `left` of the nodes stand in an area that held `before` from place `at` on, and end at place `end`. After them `rest` nodes are left
 -- to list, and room for these is left of what there was.
-pub record Lists (rd : Reader) (places : List Place) (before : List ℕ) (at left : ℕ) (after : List ℕ) (end rest : ℕ) : Type 0 where
-  pub appended : Appended before at (nodeLines rd (take left places)) after end
-  pub remain : rest ≡ left - length places
+pub record Lists (rd : Reader) (nodes : List Node) (before : List ℕ) (at left : ℕ) (after : List ℕ) (end rest : ℕ) : Type 0 where
+  pub appended : Appended before at (nodeLines rd (take left nodes)) after end
+  pub remain : rest ≡ left - length nodes
   pub room : end + 84 * rest ≤ at + 84 * left
 
--- the first of two lists of places
-take-both : (n : ℕ) (xs ys : List Place) → take n (xs ++ ys) ≡ take n xs ++ take (n - length xs) ys
+-- the first of two lists of nodes
+take-both : (n : ℕ) (xs ys : List Node) → take n (xs ++ ys) ≡ take n xs ++ take (n - length xs) ys
 take-both n [] ys = let all : n - 0 ≡ n = omega arith in rw (take-nil n, all)
 take-both zero (x ∷ xs) ys = let none : 0 - suc (length xs) ≡ 0 = omega arith in rw none
 take-both (suc n) (x ∷ xs) ys =
-    let less : suc n - suc (length xs) ≡ n - length xs = omega arith in rw less (ap (λ (l : List Place). x ∷ l) (take-both n xs ys))
+    let less : suc n - suc (length xs) ≡ n - length xs = omega arith in rw less (ap (λ (l : List Node). x ∷ l) (take-both n xs ys))
 
-lines-both : (rd : Reader) (xs ys : List Place) → nodeLines rd (xs ++ ys) ≡ nodeLines rd xs ++ nodeLines rd ys
+lines-both : (rd : Reader) (xs ys : List Node) → nodeLines rd (xs ++ ys) ≡ nodeLines rd xs ++ nodeLines rd ys
 unfolding nodeLines flatMap
 lines-both rd [] ys = refl
 lines-both rd (x ∷ xs) ys = ap (λ (l : List ℕ). nodeLine rd x ++ l) (lines-both rd xs ys) ∙ sym (append-assoc (nodeLine rd x) (nodeLines rd xs) (nodeLines rd ys))
 
 module _ (rd : Reader) where
-  -- no place
+  -- no node
   none-listed : (area : List ℕ) (at left : ℕ) → Lists rd [] area at left area at left
   unfolding nodeLines flatMap
   none-listed area at left = record { appended = rw (take-nil left) (appended-none area at); remain = omega arith; room = omega arith }
 
   -- no node is left
-  pub none-left : (places : List Place) (area : List ℕ) (at left : ℕ) → left ≡ 0 → Lists rd places area at left area at left
+  pub none-left : (nodes : List Node) (area : List ℕ) (at left : ℕ) → left ≡ 0 → Lists rd nodes area at left area at left
   unfolding nodeLines flatMap
-  none-left places area at left e = record { appended = rw e (appended-none area at); remain = omega arith; room = omega arith }
+  none-left nodes area at left e = record { appended = rw e (appended-none area at); remain = omega arith; room = omega arith }
 
-  -- places, and then others
-  more-listed : (first second : List Place) (before middle after : List ℕ) (at left end rest last over : ℕ) → Lists rd first before at left middle end rest →
+  -- nodes, and then others
+  more-listed : (first second : List Node) (before middle after : List ℕ) (at left end rest last over : ℕ) → Lists rd first before at left middle end rest →
       Lists rd second middle end rest after last over → Lists rd (first ++ second) before at left after last over
   more-listed first second before middle after at left end rest last over one two =
       let text : nodeLines rd (take left (first ++ second)) ≡ nodeLines rd (take left first) ++ nodeLines rd (take rest second) =
@@ -71,8 +71,8 @@ module _ (rd : Reader) where
   pub node-none : (n depth : ℕ) (area : List ℕ) (at left : ℕ) → n ≡ 0 → Lists rd (order rd n depth) area at left area at left
   node-none n depth area at left e = rw (e, order-zero rd depth) (none-listed area at left)
 
-  -- one place
-  one-listed : (p : Place) (before after : List ℕ) (at left end : ℕ) → (left ≡ 0 → ⊥) → Appended before at (nodeLine rd p) after end → end ≤ at + 84 →
+  -- one node
+  one-listed : (p : Node) (before after : List ℕ) (at left end : ℕ) → (left ≡ 0 → ⊥) → Appended before at (nodeLine rd p) after end → end ≤ at + 84 →
       Lists rd (p ∷ []) before at left after end (left - 1)
   unfolding nodeLines flatMap
   one-listed p before after at zero end pos w few = absurd (pos refl)
@@ -81,11 +81,11 @@ module _ (rd : Reader) where
       record { appended = rw text w; remain = omega arith; room = omega arith }
 
   pub node-listed : (n c depth : ℕ) (before middle after : List ℕ) (at left end last over : ℕ) → (n ≡ 0 → ⊥) → (left ≡ 0 → ⊥) → c ≡ lower rd n 2 →
-      Appended before at (nodeLine rd (place depth n)) middle end → end ≤ at + 84 →
+      Appended before at (nodeLine rd (nodeAt depth n)) middle end → end ≤ at + 84 →
       Lists rd (orderFrom rd c (depth + 1)) middle end (left - 1) after last over → Lists rd (order rd n depth) before at left after last over
   node-listed n c depth before middle after at left end last over pos some ec w few two =
       rw (order-node rd n depth (omega arith), ← ec)
-      (more-listed (place depth n ∷ []) _ before middle after at left end (left - 1) last over (one-listed (place depth n) before middle at left end some w few) two)
+      (more-listed (nodeAt depth n ∷ []) _ before middle after at left end (left - 1) last over (one-listed (nodeAt depth n) before middle at left end some w few) two)
 
   -- the record number falls
   pub number-falls : (i x w t : ℕ) → i ≡ t → (i ≡ 0 → ⊥) → x ≡ lower rd i w → x < t

@@ -9,7 +9,7 @@ use Rattle.reader.specs.Kinds.{modes}
 use Rattle.reader.specs.Places.{rootOf, reading}
 use Rattle.reader_laws.specs.File.{beside}
 use Rattle.proof_rules.specs.Check.{nodeFault, premiseSequent, startSequent, proofWalk, proofAnswer}
-use Rattle.tree_rules.specs.Order.{Place, order}
+use Rattle.tree_rules.specs.Order.{Node, order}
 use Rattle.tree_rules.specs.Listing.{entered}
 use Rattle.tree_meaning.specs.Walked.{Entered, enteredFrom}
 
@@ -22,11 +22,11 @@ rootEntered ob pf =
 abbrev pub WalkCounts : Type 0
 WalkCounts = (ob pf : List ℕ) →
     (eqb (proofWalk (beside ob pf) (rootOf pf) .refusal) 0 ≡ rootEntered ob pf .passes)
-    × (proofWalk (beside ob pf) (rootOf pf) .nodes ≡ length (rootEntered ob pf .places))
+    × (proofWalk (beside ob pf) (rootOf pf) .nodes ≡ length (rootEntered ob pf .nodes))
 
 -- The nodes listed are those that the walk enters, in its order; none where a place before the walk refuses.
 abbrev pub EnteredWalk : Type 0
-EnteredWalk = (ob pf : List ℕ) → entered ob pf ≡ ifEq (reading (modes .proof) ob pf .refusal) 0 (rootEntered ob pf .places) []
+EnteredWalk = (ob pf : List ℕ) → entered ob pf ≡ ifEq (reading (modes .proof) ob pf .refusal) 0 (rootEntered ob pf .nodes) []
 
 -- They are as many as the answer counts.
 abbrev pub EnteredCount : Type 0

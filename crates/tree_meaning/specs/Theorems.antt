@@ -17,7 +17,7 @@ use Rattle.reader_laws.specs.Under.{root-under}
 use Rattle.reader_laws.specs.Entered.{node-count}
 use Rattle.proof_rules.specs.Check.{nodeFault, premiseSequent, startSequent, proofWalk, proofAnswer}
 use Rattle.proof_meaning.specs.Rows.{passed-in}
-use Rattle.tree_rules.specs.Order.{Place, order}
+use Rattle.tree_rules.specs.Order.{Node, order}
 use Rattle.tree_rules.specs.Listing.{heading, nodeLines, entered, ending, listing}
 use Rattle.tree_meaning.specs.WalkedLaws.{Agrees, all-entered, first-entered, walk-entered}
 use Rattle.tree_meaning.specs.BeforeWalk.{reading-none}
@@ -46,7 +46,7 @@ unfolding entered ifEq
 entered-walk ob pf = go (eqb (reading 1 ob pf .refusal) 0) refl
   where
     go : (t : Bool) → eqb (reading 1 ob pf .refusal) 0 ≡ t →
-        entered ob pf ≡ elim t as (λ x. List Place) [ true ↦ rootEntered ob pf .places | false ↦ [] ]
+        entered ob pf ≡ elim t as (λ x. List Node) [ true ↦ rootEntered ob pf .nodes | false ↦ [] ]
     go true e = rw (answer-walk ob pf (eqb-true _ 0 e)) (first-entered (root-agrees ob pf))
     go false e = rw (answer-none ob pf e)
 
@@ -56,7 +56,7 @@ entered-count ob pf = go (eqb (reading 1 ob pf .refusal) 0) refl
   where
     go : (t : Bool) → eqb (reading 1 ob pf .refusal) 0 ≡ t → length (entered ob pf) ≡ proofAnswer ob pf .nodes
     go true e =
-        let same : entered ob pf ≡ rootEntered ob pf .places = entered-walk ob pf ∙ simp (ifEq, e) in
+        let same : entered ob pf ≡ rootEntered ob pf .nodes = entered-walk ob pf ∙ simp (ifEq, e) in
         ap length same ∙ sym (walk-counts ob pf .1) ∙ ap (λ (a : Answer). a .nodes) (sym (answer-walk ob pf (eqb-true _ 0 e)))
     go false e =
         let same : entered ob pf ≡ [] = entered-walk ob pf ∙ simp (ifEq, e) in

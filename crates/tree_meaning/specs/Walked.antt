@@ -1,4 +1,4 @@
--- The walk of any calculus, as `Walk` has it, with the places of the nodes entered instead of their number.
+-- The walk of any calculus, as `Walk` has it, with the nodes entered instead of their number.
 use Prim.Native.Nat.{ℕ, _+_}
 use mathlib.Core.List.{List, [], _∷_, _++_}
 use mathlib.Core.Bool.{Bool, true, false}
@@ -6,20 +6,20 @@ use lib.Dec.{eqb}
 use Rattle.reader.specs.Words.{Reader}
 use Rattle.reader.specs.Down.{down}
 use Rattle.reader.specs.Trees.{lower}
-use Rattle.tree_rules.specs.Order.{Place, place}
+use Rattle.tree_rules.specs.Order.{Node, nodeAt}
 
--- the places of the nodes entered, in the order of entering, and whether all of them pass their tests
+-- the nodes entered, in the order of entering, and whether all of them pass their tests
 pub record Entered : Type 0 where
   pub passes : Bool
-  pub places : List Place
+  pub nodes : List Node
 
 -- a node that is entered before others
-abbrev pub before : Place → Entered → Entered
-before p e = record { passes = e .passes; places = p ∷ e .places }
+abbrev pub before : Node → Entered → Entered
+before p e = record { passes = e .passes; nodes = p ∷ e .nodes }
 
 -- go on from nodes that all pass
 unfoldable pub goOn : Entered → Entered → Entered
-goOn e rest = elim (e .passes) [ true ↦ record { passes = rest .passes; places = e .places ++ rest .places } | false ↦ e ]
+goOn e rest = elim (e .passes) [ true ↦ record { passes = rest .passes; nodes = e .nodes ++ rest .nodes } | false ↦ e ]
 
 -- the walk at a record, at a depth: as a node, and as a link of the chain of premises of node n, from premise b on
 pub record Entering (S : Type 0) : Type 0 where
@@ -31,8 +31,8 @@ module _ {S : Type 0} (rd : Reader) (fault : S → ℕ → ℕ) (next : S → �
   unfoldable pub enterNode : Entering S → ℕ → S → ℕ → Entered
   enterNode chain n state depth =
       elim (eqb (fault state n) 0) [
-        | true ↦ before (place depth n) (chain .link n 0 state (depth + 1))
-        | false ↦ record { passes = false; places = place depth n ∷ [] }
+        | true ↦ before (nodeAt depth n) (chain .link n 0 state (depth + 1))
+        | false ↦ record { passes = false; nodes = nodeAt depth n ∷ [] }
       ]
 
   -- at a link: the walk at its item, and then at the next link
@@ -45,8 +45,8 @@ module _ {S : Type 0} (rd : Reader) (fault : S → ℕ → ℕ) (next : S → �
   -- record 0 is no node, and ends a chain
   abbrev pub noEntering : Entering S
   noEntering = record {
-    node = λ state depth. record { passes = false; places = [] };
-    link = λ n b state depth. record { passes = true; places = [] };
+    node = λ state depth. record { passes = false; nodes = [] };
+    link = λ n b state depth. record { passes = true; nodes = [] };
   }
 
   unfoldable pub entering : ℕ → Entering S

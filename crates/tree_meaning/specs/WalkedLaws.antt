@@ -17,25 +17,25 @@ use Rattle.reader.specs.Answers.{answer, accepted}
 use Rattle.reader.specs.Walk as walk
 use Rattle.reader.specs.Walk.{walkNode, walkLinks}
 use Rattle.reader.specs.WalkLaws.{node-go, node-stop, link-zero, link-go, link-stop}
-use Rattle.tree_rules.specs.Order.{Place, place, order}
+use Rattle.tree_rules.specs.Order.{Node, nodeAt, order}
 use Rattle.tree_rules.specs.OrderLaws.{orderFrom, order-zero, order-node, order-end, order-link}
 use Rattle.tree_meaning.specs.Walked.{Entered, goOn, Entering, enterNode, enterLink, enterStep, noEntering, entering, enteredFrom}
 
--- The walk answers a, having counted `count` nodes before, and enters e; `all` are the places that it would enter if no test failed.
-pub record Agrees (a : Answer) (count : ℕ) (e : Entered) (all : List Place) : Type 0 where
+-- The walk answers a, having counted `count` nodes before, and enters e; `all` are the nodes that it would enter if no test failed.
+pub record Agrees (a : Answer) (count : ℕ) (e : Entered) (all : List Node) : Type 0 where
   pub accepts : eqb (a .refusal) 0 ≡ e .passes
-  pub counts : a .nodes ≡ count + length (e .places)
-  pub rest : List Place
-  pub whole : all ≡ e .places ++ rest
+  pub counts : a .nodes ≡ count + length (e .nodes)
+  pub rest : List Node
+  pub whole : all ≡ e .nodes ++ rest
   pub none : e .passes ≡ true → rest ≡ []
 
 -- where it accepts, it enters all
-pub all-entered : {a : Answer} {count : ℕ} {e : Entered} {all : List Place} → Agrees a count e all → e .passes ≡ true → all ≡ e .places
-all-entered {e = e} w h = w .whole ∙ ap (λ (l : List Place). e .places ++ l) (w .none h) ∙ append-nil (e .places)
+pub all-entered : {a : Answer} {count : ℕ} {e : Entered} {all : List Node} → Agrees a count e all → e .passes ≡ true → all ≡ e .nodes
+all-entered {e = e} w h = w .whole ∙ ap (λ (l : List Node). e .nodes ++ l) (w .none h) ∙ append-nil (e .nodes)
 
--- the places entered are the first ones
-pub first-entered : {a : Answer} {e : Entered} {all : List Place} → Agrees a 0 e all → take (a .nodes) all ≡ e .places
-first-entered {a = a} {e = e} w = let n : a .nodes ≡ length (e .places) = omega (arith, w .counts) in rw (n, w .whole) (take-append-seam (e .places) (w .rest))
+-- the nodes entered are the first ones
+pub first-entered : {a : Answer} {e : Entered} {all : List Node} → Agrees a 0 e all → take (a .nodes) all ≡ e .nodes
+first-entered {a = a} {e = e} w = let n : a .nodes ≡ length (e .nodes) = omega (arith, w .counts) in rw (n, w .whole) (take-append-seam (e .nodes) (w .rest))
 
 module _ {S : Type 0} (rd : Reader) (fault : S → ℕ → ℕ) (next : S → ℕ → ℕ → S) where
   entering-local : Local (enterStep rd fault next)
@@ -93,7 +93,7 @@ module _ {S : Type 0} (rd : Reader) (fault : S → ℕ → ℕ) (next : S → �
           accepts = w .accepts;
           counts = omega (arith, w .counts);
           rest = w .rest;
-          whole = ap (λ (l : List Place). place depth n ∷ l) (w .whole);
+          whole = ap (λ (l : List Node). nodeAt depth n ∷ l) (w .whole);
           none = w .none;
         }))
 
@@ -133,10 +133,10 @@ module _ {S : Type 0} (rd : Reader) (fault : S → ℕ → ℕ) (next : S → �
         rw (link-go rd fault next n b st count c p accepts, entered-link, order-link rd c depth p)
         (simp (goOn, passes) (record {
           accepts = more .accepts;
-          counts = omega (arith, more .counts, one .counts, length-append (item .places) (others .places));
+          counts = omega (arith, more .counts, one .counts, length-append (item .nodes) (others .nodes));
           rest = more .rest;
-          whole = ap (λ (l : List Place). l ++ orderFrom rd (lower rd c 3) depth) (all-entered one passes)
-              ∙ ap (λ (l : List Place). item .places ++ l) (more .whole) ∙ sym (append-assoc (item .places) (others .places) (more .rest));
+          whole = ap (λ (l : List Node). l ++ orderFrom rd (lower rd c 3) depth) (all-entered one passes)
+              ∙ ap (λ (l : List Node). item .nodes ++ l) (more .whole) ∙ sym (append-assoc (item .nodes) (others .nodes) (more .rest));
           none = more .none;
         }))
 
@@ -150,7 +150,7 @@ module _ {S : Type 0} (rd : Reader) (fault : S → ℕ → ℕ) (next : S → �
           accepts = one .accepts;
           counts = one .counts;
           rest = one .rest ++ orderFrom rd (lower rd c 3) depth;
-          whole = ap (λ (l : List Place). l ++ orderFrom rd (lower rd c 3) depth) (one .whole) ∙ append-assoc (item .places) (one .rest) (orderFrom rd (lower rd c 3) depth);
+          whole = ap (λ (l : List Node). l ++ orderFrom rd (lower rd c 3) depth) (one .whole) ∙ append-assoc (item .nodes) (one .rest) (orderFrom rd (lower rd c 3) depth);
           none = λ h. absurd (false≢true (sym fails ∙ h));
         }))
 

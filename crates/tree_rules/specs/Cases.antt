@@ -73,8 +73,8 @@ branching =
 pub branches-hold :
     listingsOf branching
     ≡ map ascii (
-      "tree 1\n0 16 37 1\n1 11 41 3\n2 7 33 0\n2 8 32 0\n1 13 33 0\n" ∷
-      "tree 1\n0 16 37 1\n1 11 41 3\n2 7 33 0\n2 8 33 0\nrefused 14 2 8 4\n" ∷ []
+    "tree 1\n0 16 37 1\n1 11 41 3\n2 7 33 0\n2 8 32 0\n1 13 33 0\n" ∷
+    "tree 1\n0 16 37 1\n1 11 41 3\n2 7 33 0\n2 8 33 0\nrefused 14 2 8 4\n" ∷ []
     )
 unfolding openListing
 branches-hold = refl

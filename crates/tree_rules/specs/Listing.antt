@@ -11,7 +11,7 @@ use Rattle.reader.specs.Places.{countOf, rootOf}
 use Rattle.proof_rules.specs.Check.{proofAnswer}
 use Rattle.programs_lines.specs.Lines.{numbersLine, line}
 use Rattle.programs_text.specs.Text.{ascii}
-use Rattle.tree_rules.specs.Order.{Place, order}
+use Rattle.tree_rules.specs.Order.{Node, order}
 
 -- the bytes of `tree 1` and a newline
 abbrev pub heading : List ℕ
@@ -22,15 +22,15 @@ unfoldable pub firstPart : Reader → ℕ → ℕ
 firstPart rd n = getD (parts rd n) 0 0
 
 -- "depth from 0, record number, rule kind, record of the first part (0 if none)"
-unfoldable pub nodeLine : Reader → Place → List ℕ
-nodeLine rd p = numbersLine (p .depth) (p .node) (kindAt rd (p .node)) (firstPart rd (p .node))
+unfoldable pub nodeLine : Reader → Node → List ℕ
+nodeLine rd node = numbersLine (node .depth) (node .number) (kindAt rd (node .number)) (firstPart rd (node .number))
 
 -- the lines of nodes, one after the other
-unfoldable pub nodeLines : Reader → List Place → List ℕ
-nodeLines rd places = flatMap (nodeLine rd) places
+unfoldable pub nodeLines : Reader → List Node → List ℕ
+nodeLines rd nodes = flatMap (nodeLine rd) nodes
 
 -- "the nodes that the answer counts": as many as it says, the first ones in walk order
-unfoldable pub entered : List ℕ → List ℕ → List Place
+unfoldable pub entered : List ℕ → List ℕ → List Node
 entered ob pf = take (proofAnswer ob pf .nodes) (order (word ob pf (countOf ob)) (rootOf pf) 0)
 
 -- the bytes of `refused` and a space

@@ -8,14 +8,14 @@ use Rattle.reader.specs.DownLaws.{Local, down-zero, down-step}
 use Rattle.reader.specs.Trees.{lower}
 use Rattle.reader.specs.Chains.{items, premises}
 use Rattle.reader.specs.TreeLaws.{below, lower-below, items-zero, items-step}
-use Rattle.tree_rules.specs.Order.{Place, place, orderStep, order}
+use Rattle.tree_rules.specs.Order.{Node, nodeAt, orderStep, order}
 
--- the places of the items of a chain from link c on, which stand at this depth
-unfoldable pub orderFrom : Reader → ℕ → ℕ → List Place
+-- the nodes of the items of a chain from link c on, which stand at this depth
+unfoldable pub orderFrom : Reader → ℕ → ℕ → List Node
 orderFrom rd c depth = flatMap (λ x. order rd x depth) (items rd c)
 
 -- what the items of a chain give depends on records below its first link only
-module _ (rd : Reader) (f g : ℕ → List Place) where
+module _ (rd : Reader) (f g : ℕ → List Node) where
   chain-local : (c : ℕ) → ((j : ℕ) → j < c → f j ≡ g j) → flatMap f (items rd c) ≡ flatMap g (items rd c)
   unfolding flatMap
   chain-local = below (λ c. ((j : ℕ) → j < c → f j ≡ g j) → flatMap f (items rd c) ≡ flatMap g (items rd c)) step
@@ -33,9 +33,9 @@ module _ (rd : Reader) where
   order-local : Local (orderStep rd)
   unfolding orderStep premises
   order-local f g i p h =
-      fun-ext (λ depth. ap (λ (l : List Place). place depth i ∷ l)
+      fun-ext (λ depth. ap (λ (l : List Node). nodeAt depth i ∷ l)
       (chain-local rd (λ x. f x (depth + 1)) (λ x. g x (depth + 1)) (lower rd i 2)
-      (λ j q. ap (λ (o : ℕ → List Place). o (depth + 1)) (h j (omega (arith, lower-below rd i 2 p))))))
+      (λ j q. ap (λ (o : ℕ → List Node). o (depth + 1)) (h j (omega (arith, lower-below rd i 2 p))))))
 
   order-step : (n : ℕ) → 0 < n → order rd n ≡ orderStep rd (order rd) n
   unfolding order
@@ -43,12 +43,12 @@ module _ (rd : Reader) where
 
   pub order-zero : (depth : ℕ) → order rd 0 depth ≡ []
   unfolding order
-  order-zero depth = ap (λ (o : ℕ → List Place). o depth) (down-zero (λ depth. []) (orderStep rd))
+  order-zero depth = ap (λ (o : ℕ → List Node). o depth) (down-zero (λ depth. []) (orderStep rd))
 
   -- a node, then its premises
-  pub order-node : (n depth : ℕ) → 0 < n → order rd n depth ≡ place depth n ∷ orderFrom rd (lower rd n 2) (depth + 1)
+  pub order-node : (n depth : ℕ) → 0 < n → order rd n depth ≡ nodeAt depth n ∷ orderFrom rd (lower rd n 2) (depth + 1)
   unfolding orderStep orderFrom premises
-  order-node n depth p = ap (λ (o : ℕ → List Place). o depth) (order-step n p)
+  order-node n depth p = ap (λ (o : ℕ → List Node). o depth) (order-step n p)
 
   pub order-end : (depth : ℕ) → orderFrom rd 0 depth ≡ []
   unfolding orderFrom flatMap
