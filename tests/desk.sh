@@ -149,7 +149,7 @@ deep_lines() {
     }'
 }
 
-# trees: every stored proof listed; the deepest proof, and one too deep; a long text into a slow pipe, and into a file that may have 4 KiB.
+# trees: every stored proof listed; the deepest proof, and one too deep; a long text into a pipe with little room, and into a file that may have 4 KiB.
 trees() {
     use tree
     local of name line deep=("$samples/e17.obligation" "$work/deep.proof") wanted
@@ -161,7 +161,7 @@ trees() {
     target/samples_c "$work" proof 1024
     wanted=$(deep_lines 1024 1024)
     answers "a proof 1,024 nodes deep listed" "$wanted" "${deep[@]}"
-    expect "a listing into a slow pipe" "$wanted"$'\n.' "$(target/bin/desk_tree "${deep[@]}" 2>&1 | { sleep 0.2 && cat && echo .; })"
+    expect "a listing by several writes" "$wanted"$'\n.' "$(target/slow_c target/bin/desk_tree "${deep[@]}" 2>&1 && echo .)"
     expect "a listing into a file that is too small" "standard output: File too large" \
         "$(trap '' XFSZ && ulimit -f 4 && target/bin/desk_tree "${deep[@]}" 2>&1 >"$work/out")"
     expect "the part that is there" "$(head -c 4096 <<<"$wanted")" "$(cat "$work/out")"
