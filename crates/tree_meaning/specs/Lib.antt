@@ -1,5 +1,6 @@
 pub mod Walked
 pub mod WalkedLaws
+pub mod Faulty
 pub mod BeforeWalk
 pub mod Statements
 pub mod Theorems

@@ -11,7 +11,7 @@ use Rattle.reader_laws.specs.File.{beside}
 use Rattle.proof_rules.specs.Check.{nodeFault, premiseSequent, startSequent, proofWalk, proofAnswer}
 use Rattle.tree_rules.specs.Order.{Node, order}
 use Rattle.tree_rules.specs.Listing.{entered}
-use Rattle.tree_meaning.specs.Walked.{Entered, enteredFrom}
+use Rattle.tree_meaning.specs.Walked.{Entered, enteredFrom, EndsAt}
 
 -- what the proof check's walk enters, from the root on
 abbrev pub rootEntered : List ℕ → List ℕ → Entered
@@ -35,6 +35,11 @@ EnteredCount = (ob pf : List ℕ) → length (entered ob pf) ≡ proofAnswer ob 
 -- On acceptance they are all nodes of the tree.
 abbrev pub EnteredAll : Type 0
 EnteredAll = (ob pf : List ℕ) → proofAnswer ob pf .refusal ≡ 0 → entered ob pf ≡ order (beside ob pf) (rootOf pf) 0
+
+-- On a refusal in the walk, the last of them is the record that the answer names.
+abbrev pub RefusedLast : Type 0
+RefusedLast = (ob pf : List ℕ) → reading (modes .proof) ob pf .refusal ≡ 0 → (proofAnswer ob pf .refusal ≡ 0 → ⊥) →
+    EndsAt (proofAnswer ob pf .at) (entered ob pf)
 
 -- No answer of the proof check counts more nodes than the longest proof has records.
 abbrev pub FewNodes : Type 0

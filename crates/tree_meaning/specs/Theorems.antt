@@ -6,22 +6,28 @@ use mathlib.Core.Bool.{Bool, true, false}
 use lib.Dec.{eqb}
 use lib.ListN.{length, take}
 use native.Mathlib.Omega.{arith}
-use borrow.Author.Tests.{eqb-true, eq-eqb}
+use borrow.Author.Tests.{eqb-true, eq-eqb, ne-eqb}
 use Rattle.reader.specs.declared.Answer.{Answer}
-use Rattle.reader.specs.Tests.{ifEq}
+use Rattle.reader.specs.Tests.{every, ifEq}
+use Rattle.reader.specs.Kinds.{isRule}
+use Rattle.reader.specs.Trees.{Tree}
+use Rattle.reader.specs.Chains.{premises}
 use Rattle.reader.specs.Answers.{orAnswer}
 use Rattle.reader.specs.Places.{mostRecords, countOf, rootOf, reading}
 use Rattle.reader_laws.specs.Scan.{orAnswer-parts, orAnswer-join}
 use Rattle.reader_laws.specs.File.{beside, reading-parts, length-parts, header-parts, counts-parts}
+use Rattle.reader_laws.specs.Pair.{rule-range}
 use Rattle.reader_laws.specs.Under.{root-under}
 use Rattle.reader_laws.specs.Entered.{node-count}
 use Rattle.proof_rules.specs.Check.{nodeFault, premiseSequent, startSequent, proofWalk, proofAnswer}
 use Rattle.proof_meaning.specs.Rows.{passed-in}
 use Rattle.tree_rules.specs.Order.{Node, order}
 use Rattle.tree_rules.specs.Listing.{heading, nodeLines, entered, ending, listing}
+use Rattle.tree_meaning.specs.Walked.{EndsAt}
+use Rattle.tree_meaning.specs.Faulty.{walk-faulty}
 use Rattle.tree_meaning.specs.WalkedLaws.{Agrees, all-entered, first-entered, walk-entered}
 use Rattle.tree_meaning.specs.BeforeWalk.{reading-none}
-use Rattle.tree_meaning.specs.Statements.{rootEntered, WalkCounts, EnteredWalk, EnteredCount, EnteredAll, FewNodes}
+use Rattle.tree_meaning.specs.Statements.{rootEntered, WalkCounts, EnteredWalk, EnteredCount, EnteredAll, RefusedLast, FewNodes}
 
 module _ (ob pf : List ℕ) where
   -- the walk from the root
@@ -69,8 +75,26 @@ entered-all ob pf h =
     let passes = sym (walk-counts ob pf .0) ∙ eq-eqb _ 0 (both .1) in
     entered-walk ob pf ∙ simp (ifEq, eq-eqb _ 0 (both .0)) (sym (all-entered (root-agrees ob pf) passes))
 
--- the walk enters no more nodes than the proof has records
+-- Files that pass the reading.
 module _ (ob pf : List ℕ) (h : reading 1 ob pf .refusal ≡ 0) where
+  -- a node without a fault has rule nodes for premises
+  rules : (Γ : List Tree) (n : ℕ) → nodeFault (beside ob pf) Γ n ≡ 0 → every (λ x. isRule 1 (beside ob pf x 0)) (premises (beside ob pf) n) ≡ true
+  rules Γ n e = passed-in (beside ob pf) Γ n e .rules
+
+  header-no-rule : isRule 1 (beside ob pf 0 0) ≡ false
+  header-no-rule = go (isRule 1 (beside ob pf 0 0)) refl
+    where
+      go : (t : Bool) → isRule 1 (beside ob pf 0 0) ≡ t → t ≡ false
+      go true e = let read = reading-parts 1 ob pf h in absurd (omega (arith, rule-range 1 ob pf (read .0) (read .1) 0 e .0))
+      go false e = refl
+
+  walk-last : rootEntered ob pf .passes ≡ false → EndsAt (proofWalk (beside ob pf) (rootOf pf) .at) (rootEntered ob pf .nodes)
+  unfolding proofWalk
+  walk-last fails =
+      walk-faulty 1 (beside ob pf) (nodeFault (beside ob pf)) (premiseSequent (beside ob pf)) rules header-no-rule (rootOf pf) (startSequent (beside ob pf)) 0 0
+      (reading-parts 1 ob pf h .1 .root) fails
+
+  -- the walk enters no more nodes than the proof has records
   few-records : countOf pf ≤ 3072
   unfolding mostRecords ifEq
   few-records =
@@ -81,9 +105,18 @@ module _ (ob pf : List ℕ) (h : reading 1 ob pf .refusal ≡ 0) where
   unfolding proofWalk
   walk-few =
       let read = reading-parts 1 ob pf h in
-      let count = node-count 1 (beside ob pf) (nodeFault (beside ob pf)) (premiseSequent (beside ob pf)) (λ Γ n e. passed-in (beside ob pf) Γ n e .rules)
+      let count = node-count 1 (beside ob pf) (nodeFault (beside ob pf)) (premiseSequent (beside ob pf)) rules
       (rootOf pf) (startSequent (beside ob pf)) 0 (read .1 .root) in
       omega (arith, root-under 1 ob pf (read .0) (read .1))
+
+pub refused-last : RefusedLast
+unfolding ifEq
+refused-last ob pf h refuses =
+    let walk = answer-walk ob pf h in
+    let fails : rootEntered ob pf .passes ≡ false =
+    sym (walk-counts ob pf .0) ∙ ne-eqb _ 0 (λ e. refuses (ap (λ (a : Answer). a .refusal) walk ∙ e)) in
+    let same : entered ob pf ≡ rootEntered ob pf .nodes = entered-walk ob pf ∙ simp (ifEq, eq-eqb _ 0 h) in
+    rw (same, walk) (walk-last ob pf h fails)
 
 pub few-nodes : FewNodes
 few-nodes ob pf = go (eqb (reading 1 ob pf .refusal) 0) refl

@@ -1,5 +1,6 @@
 -- The walk of any calculus, as `Walk` has it, with the nodes entered instead of their number.
 use Prim.Native.Nat.{ℕ, _+_}
+use mathlib.Core.Path.{_≡_}
 use mathlib.Core.List.{List, [], _∷_, _++_}
 use mathlib.Core.Bool.{Bool, true, false}
 use lib.Dec.{eqb}
@@ -55,3 +56,9 @@ module _ {S : Type 0} (rd : Reader) (fault : S → ℕ → ℕ) (next : S → �
   -- the nodes that the walk enters from node n on, which stands at this depth
   unfoldable pub enteredFrom : ℕ → S → ℕ → Entered
   enteredFrom n = entering n .node
+
+-- the last of the nodes is record r
+pub record EndsAt (r : ℕ) (nodes : List Node) : Type 0 where
+  pub first : List Node
+  pub depth : ℕ
+  pub whole : nodes ≡ first ++ (nodeAt depth r ∷ [])

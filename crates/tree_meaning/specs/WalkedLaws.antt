@@ -46,15 +46,15 @@ module _ {S : Type 0} (rd : Reader) (fault : S → ℕ → ℕ) (next : S → �
   unfolding entering
   entering-step i p = down-step (noEntering rd fault next) (enterStep rd fault next) entering-local i p
 
-  entering-zero : entering rd fault next 0 ≡ noEntering rd fault next
+  pub entering-zero : entering rd fault next 0 ≡ noEntering rd fault next
   unfolding entering
   entering-zero = down-zero (noEntering rd fault next) (enterStep rd fault next)
 
   -- the nodes entered at a record: as a node, and as a link
-  abbrev visited : ℕ → S → ℕ → Entered
+  abbrev pub visited : ℕ → S → ℕ → Entered
   visited i = entering rd fault next i .node
 
-  abbrev followed : ℕ → ℕ → ℕ → S → ℕ → Entered
+  abbrev pub followed : ℕ → ℕ → ℕ → S → ℕ → Entered
   followed i = entering rd fault next i .link
 
   record Walked (i : ℕ) : Type 0 where
@@ -79,7 +79,7 @@ module _ {S : Type 0} (rd : Reader) (fault : S → ℕ → ℕ) (next : S → �
 
   -- a node, from its chain of premises
   module _ (n : ℕ) (p : 0 < n) (st : S) (count depth : ℕ) where
-    entered-node : visited n st depth ≡ enterNode rd fault next (entering rd fault next (lower rd n 2)) n st depth
+    pub entered-node : visited n st depth ≡ enterNode rd fault next (entering rd fault next (lower rd n 2)) n st depth
     unfolding enterStep
     entered-node = ap (λ (w : Entering S). w .node st depth) (entering-step n p)
 
@@ -114,13 +114,13 @@ module _ {S : Type 0} (rd : Reader) (fault : S → ℕ → ℕ) (next : S → �
     abbrev first : Answer
     first = walkNode rd fault next (lower rd c 1) (next st n b) count
 
-    abbrev item : Entered
+    abbrev pub item : Entered
     item = visited (lower rd c 1) (next st n b) depth
 
-    abbrev others : Entered
+    abbrev pub others : Entered
     others = followed (lower rd c 3) n (b + 1) st depth
 
-    entered-link : followed c n b st depth ≡ goOn item others
+    pub entered-link : followed c n b st depth ≡ goOn item others
     unfolding enterStep enterLink
     entered-link = ap (λ (w : Entering S). w .link n b st depth) (entering-step c p)
 
@@ -190,3 +190,7 @@ module _ {S : Type 0} (rd : Reader) (fault : S → ℕ → ℕ) (next : S → �
       Agrees (walkNode rd fault next n st count) count (enteredFrom rd fault next n st depth) (order rd n depth)
   unfolding enteredFrom
   walk-entered n = walked n .at-node
+
+  -- the walk at a record, as a node of a chain
+  pub visit-agrees : (n : ℕ) (st : S) (count depth : ℕ) → Agrees (walkNode rd fault next n st count) count (visited n st depth) (order rd n depth)
+  visit-agrees n = walked n .at-node
