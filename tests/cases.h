@@ -170,8 +170,8 @@ static struct pair pair_of(const struct sample *s)
     return p;
 }
 
-/* One past the deepest derivation that is accepted, and the bytes of one so deep. */
-enum { TOO_DEEP = 8193, TOO_DEEP_BYTES = 32 * TOO_DEEP };
+/* One past the deepest derivation that is accepted, and the bytes of one so deep, or of a proof. */
+enum { TOO_DEEP = 8193, TOO_DEEP_BYTES = 32 * TOO_DEEP + 16 };
 
 /* Writes a derivation of e17's goal that is so many nodes deep: BR6 below BR2 nodes that keep nothing. Its length. */
 static size_t put_deep(uint8_t *bytes, uint32_t depth)

@@ -85,6 +85,8 @@ tries() {
     answers "a $kind that comes in parts" "$lines" "$obligation" <(in_parts "$second")
     fails "a closed output" "standard output: Bad file descriptor" closed "$obligation" "$second"
     fails "a full output" "standard output: No space left on device" /dev/full "$obligation" "$second"
+    (trap '' PIPE && sleep 0.2 && "target/bin/$program" "$obligation" "$second" 2>"$work/error") | true
+    expect "a pipe that nobody reads" "standard output: Broken pipe" "$(cat "$work/error")"
     says "no file" "$work/none: No such file or directory" "$work/none" "$second"
     says "no second file" "$work/none: No such file or directory" "$obligation" "$work/none"
     says "a directory" "$work: Is a directory" "$obligation" "$work"

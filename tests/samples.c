@@ -44,7 +44,10 @@ int main(int count, char **arguments)
     uint32_t depth = count == 4 ? (uint32_t)atol(arguments[3]) : 0;
     if (depth < 1 || depth > TOO_DEEP)
         return 2;
-    bool derivation = strcmp(arguments[2], "derivation") == 0;
-    write_file(arguments[1], "deep", arguments[2], deep, derivation ? put_deep(deep, depth) : put_deep_proof(deep, depth));
+    const char *kind = arguments[2];
+    bool proof = strcmp(kind, "proof") == 0;
+    if (!proof && strcmp(kind, "derivation") != 0)
+        return 2;
+    write_file(arguments[1], "deep", kind, deep, proof ? put_deep_proof(deep, depth) : put_deep(deep, depth));
     return 0;
 }

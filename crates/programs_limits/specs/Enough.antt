@@ -1,7 +1,7 @@
 -- Of each file one byte more is read than an accepted one has, and the buffer has room for the derivation of any accepted proof.
-use Prim.Native.Nat.{ℕ, _+_, _<_, _≤_}
+use Prim.Native.Nat.{ℕ, _+_, _≤_}
 use mathlib.Core.Path.{_≡_, refl, sym, _∙_}
-use mathlib.Core.List.{List, _++_}
+use mathlib.Core.List.{List}
 use mathlib.Core.Bool.{Bool, true, false}
 use native.Mathlib.Omega.{arith}
 use borrow.Author.Tests.{eqb-true, le-ltb}
@@ -11,8 +11,7 @@ use lib.Seq.{take-take}
 use Rattle.reader.specs.declared.Answer.{Answer}
 use Rattle.reader.specs.Tests.{ifEq, ifLt}
 use Rattle.reader.specs.Words.{word}
-use Rattle.reader.specs.Answers.{answer, orAnswer}
-use Rattle.reader.specs.Places.{mostRecords, countOf, rootOf, obligationReading, reading}
+use Rattle.reader.specs.Places.{mostRecords, countOf, rootOf, reading}
 use Rattle.reader.specs.Walk.{andThen}
 use Rattle.reader_laws.specs.Scan.{orAnswer-parts}
 use Rattle.reader_laws.specs.File.{reading-parts, length-parts, header-parts, counts-parts}
@@ -20,9 +19,6 @@ use Rattle.proof_rules.specs.Check.{proofWalk, proofAnswer}
 use Rattle.derivation_rules.specs.Check.{derivationWalk, derivationAnswer}
 use Rattle.translation_rules.specs.Check.{roomFor, translationAnswer}
 use Rattle.translation_meaning.specs.Translates.{Translates}
-use Rattle.tree_rules.specs.Listing.{heading, ending, listing}
-use Rattle.tree_meaning.specs.BeforeWalk.{or-none, obligation-none}
-use Rattle.tree_meaning.specs.Theorems.{unwalked}
 use Rattle.programs.specs.Enough as any-answer
 use Rattle.programs_limits.specs.Limits.{obligationRead, proofRead, derivationRead, bufferSize}
 
@@ -35,29 +31,6 @@ proof-enough = any-answer.enough 1 (λ ob pf. proofWalk (word ob pf (countOf ob)
 pub derivation-enough : (ob dv : List ℕ) → derivationAnswer (take obligationRead ob) (take derivationRead dv) ≡ derivationAnswer ob dv
 unfolding derivationAnswer mostRecords ifEq
 derivation-enough = any-answer.enough 2 (λ ob dv. derivationWalk (word ob dv (countOf ob)) (rootOf dv)) obligationRead derivationRead refl refl
-
--- a listing of a file that is too long has no nodes
-module _ (s ob : List ℕ) (long : any-answer.mostBytes 0 < length ob) where
-  long-obligation : listing ob s ≡ heading ++ ending (answer 1 1 0 0)
-  unfolding proofAnswer
-  long-obligation =
-      unwalked ob s (answer 1 1 0 0)
-      (any-answer.obligation-refused 1 (λ ob pf. proofWalk (word ob pf (countOf ob)) (rootOf pf)) s ob long) refl
-
-module _ (ob s : List ℕ) (long : any-answer.mostBytes 1 < length s) where
-  long-proof : listing ob s ≡ heading ++ ending (orAnswer (obligationReading ob) (answer 1 2 0 0))
-  unfolding proofAnswer
-  long-proof =
-      unwalked ob s (orAnswer (obligationReading ob) (answer 1 2 0 0))
-      (any-answer.second-refused 1 (λ ob pf. proofWalk (word ob pf (countOf ob)) (rootOf pf)) ob s long)
-      (or-none (obligationReading ob) (answer 1 2 0 0) (obligation-none ob) refl)
-
--- So the listing is that of the whole files
-pub listing-enough : (ob pf : List ℕ) → listing (take obligationRead ob) (take proofRead pf) ≡ listing ob pf
-unfolding mostRecords ifEq
-listing-enough ob pf =
-    any-answer.cut (any-answer.mostBytes 0) (λ x. listing x (take proofRead pf)) _ (long-obligation (take proofRead pf)) ob
-    ∙ any-answer.cut (any-answer.mostBytes 1) (λ x. listing ob x) _ (long-proof ob) pf
 
 -- an accepted proof has at most 3,072 records after its header
 few-records : (ob pf : List ℕ) → proofAnswer ob pf .refusal ≡ 0 → countOf pf + 1 ≤ 3073

@@ -123,4 +123,4 @@ line-slice text before out begin e = slice-is out text begin 84 (e .whole) (e .s
 
 pub translation-slice : (a : Answer) (n : ℕ) (before out : List ℕ) (begin : ℕ) → TranslationEndsIn a n before out begin →
     take (105 - begin) (drop begin out) ≡ translationLine a n
-translation-slice a n before out begin e = slice-is out (translationLine a n) begin 105 (e .whole) (e .text)
+translation-slice a n before out begin e = slice-is out (translationLine a n) begin 105 (e .whole) (e .stands)

@@ -27,8 +27,8 @@ numbersLine a b c d = decimal a ++ (32 ∷ decimal b ++ (32 ∷ decimal c ++ (32
 unfoldable pub line : Answer → List ℕ
 line a = numbersLine (a .refusal) (a .file) (a .at) (a .nodes)
 
--- an area of 84 bytes whose last ones, from place `begin` on, are a line of four numbers, each of at most 20 digits and with a byte after it; those before it
--- are as they were
+-- an area of 84 bytes, room for four numbers of at most 20 digits with a byte after each, whose last bytes, from place `begin` on, are the text; those before
+-- them are as they were
 pub record EndsIn (text before out : List ℕ) (begin : ℕ) : Type 0 where
   pub whole : 84 ≡ length out
   pub inside : begin < 84
@@ -45,5 +45,5 @@ translationLine a n =
 pub record TranslationEndsIn (a : Answer) (n : ℕ) (before out : List ℕ) (begin : ℕ) : Type 0 where
   pub whole : 105 ≡ length out
   pub inside : begin < 105
-  pub text : drop begin out ≡ translationLine a n
+  pub stands : drop begin out ≡ translationLine a n
   pub kept : take begin out ≡ take begin before

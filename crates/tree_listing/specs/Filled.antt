@@ -1,7 +1,7 @@
 -- The way out of `put_listing`, and the room for it.
-use Prim.Native.Nat.{ℕ, _+_, _*_, _≤_}
-use mathlib.Core.Path.{_≡_, ap, sym}
-use mathlib.Core.List.{List, _++_}
+use Prim.Native.Nat.{ℕ, _≤_}
+use mathlib.Core.Path.{_≡_, ap}
+use mathlib.Core.List.{List}
 use native.Mathlib.Omega.{arith}
 use Rattle.reader.specs.declared.Answer.{Answer}
 use Rattle.reader.specs.Words.{wordOf, word}
@@ -9,7 +9,7 @@ use Rattle.proof_rules.specs.Check.{proofAnswer}
 use Rattle.programs_text.specs.Text.{Appended}
 use Rattle.programs_text.specs.TextLaws.{appended-more}
 use Rattle.tree_rules.specs.Order.{order}
-use Rattle.tree_rules.specs.Listing.{heading, nodeLines, entered, ending, listing}
+use Rattle.tree_rules.specs.Listing.{heading, entered, ending, listing}
 use Rattle.tree_meaning.specs.Theorems.{few-nodes}
 use Rattle.tree_listing.specs.Lists.{Lists}
 

@@ -1,7 +1,7 @@
 -- Before the walk no node is entered: places 1 to 12 count none.
 use Prim.Native.Nat.{ℕ, zero, suc, _+_}
 use mathlib.Core.Path.{_≡_, refl}
-use mathlib.Core.List.{List, []}
+use mathlib.Core.List.{List}
 use mathlib.Core.Bool.{Bool, true, false}
 use lib.Dec.{eqb}
 use Rattle.reader.specs.declared.Answer.{Answer}

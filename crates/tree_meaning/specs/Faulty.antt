@@ -2,10 +2,10 @@
 use Prim.Native.Nat.{ℕ, zero, suc, _+_, _<_}
 use mathlib.Core.Path.{_≡_, refl, sym, ap, _∙_}
 use mathlib.Core.List.{List, [], _∷_, _++_, append-assoc}
-use mathlib.Core.Bool.{Bool, true, false, false≢true}
+use mathlib.Core.Bool.{Bool, true, false}
 use lib.Dec.{eqb}
 use native.Mathlib.Omega.{arith}
-use borrow.Author.Tests.{eqb-true, eqb-false, ne-eqb}
+use borrow.Author.Tests.{eqb-true, eqb-false}
 use Rattle.reader.specs.declared.Answer.{Answer}
 use Rattle.reader.specs.Words.{Reader}
 use Rattle.reader.specs.Tests.{every}
@@ -17,15 +17,15 @@ use Rattle.reader.specs.Walk.{walkNode, walkLinks}
 use Rattle.reader.specs.WalkLaws.{node-go, node-stop, link-go, link-stop}
 use Rattle.reader_laws.specs.Scan.{not-both-values, every-head}
 use Rattle.tree_rules.specs.Order.{Node, nodeAt}
-use Rattle.tree_meaning.specs.Walked.{Entered, before, goOn, Entering, enterNode, enteredFrom, EndsAt}
-use Rattle.tree_meaning.specs.WalkedLaws.{visited, followed, entering-zero, entered-node, entered-link, visit-agrees}
+use Rattle.tree_meaning.specs.Walked.{Visit, withFirst, goOn, Visits, visitNode, visitFrom, EndsAt}
+use Rattle.tree_meaning.specs.WalkedLaws.{visited, followed, visits-zero, visited-node, visited-link, walk-entered}
 
 -- nodes before others
-ends-after : (r : ℕ) (before nodes : List Node) → EndsAt r nodes → EndsAt r (before ++ nodes)
-ends-after r before nodes e = record {
-  first = before ++ e .first;
+ends-after : (r : ℕ) (earlier nodes : List Node) → EndsAt r nodes → EndsAt r (earlier ++ nodes)
+ends-after r earlier nodes e = record {
+  first = earlier ++ e .first;
   depth = e .depth;
-  whole = ap (λ (l : List Node). before ++ l) (e .whole) ∙ sym (append-assoc before (e .first) (nodeAt (e .depth) r ∷ []));
+  whole = ap (λ (l : List Node). earlier ++ l) (e .whole) ∙ sym (append-assoc earlier (e .first) (nodeAt (e .depth) r ∷ []));
 }
 
 -- A walk whose nodes, where they pass their tests, have rule nodes for premises; record 0 is none.
@@ -41,22 +41,22 @@ module _ {S : Type 0} (mode : ℕ) (rd : Reader) (fault : S → ℕ → ℕ) (ne
 
   node-turn : (n : ℕ) → 0 < n → Faulty (lower rd n 2) → (st : S) (count depth : ℕ) → visited rd fault next n st depth .passes ≡ false →
       EndsAt (walkNode rd fault next n st count .at) (visited rd fault next n st depth .nodes)
-  unfolding enterNode premises
+  unfolding visitNode premises
   node-turn n p links st count depth fails = go (eqb (fault st n) 0) refl
     where
       go : (t : Bool) → eqb (fault st n) 0 ≡ t → EndsAt (walkNode rd fault next n st count .at) (visited rd fault next n st depth .nodes)
       go true e =
           let pass : fault st n ≡ 0 = eqb-true (fault st n) 0 e in
-          let chain : Entered = followed rd fault next (lower rd n 2) n 0 st (depth + 1) in
-          let own : visited rd fault next n st depth ≡ before (nodeAt depth n) chain = entered-node rd fault next n p st count depth ∙ simp (enterNode, pass) in
+          let chain : Visit = followed rd fault next (lower rd n 2) n 0 st (depth + 1) in
+          let own : visited rd fault next n st depth ≡ withFirst (nodeAt depth n) chain = visited-node rd fault next n p st count depth ∙ simp (visitNode, pass) in
           let same : walkNode rd fault next n st count .at ≡ walkLinks rd fault next (lower rd n 2) n 0 st (count + 1) .at =
           ap (λ (a : Answer). a .at) (node-go rd fault next n st count p pass) in
-          let below : chain .passes ≡ false = ap (λ (x : Entered). x .passes) (sym own) ∙ fails in
-          rw (same, own) (ends-after _ (nodeAt depth n ∷ []) (chain .nodes) (links .at-link n 0 st (count + 1) (depth + 1) (rules st n pass) below))
+          let chainFails : chain .passes ≡ false = ap (λ (x : Visit). x .passes) (sym own) ∙ fails in
+          rw (same, own) (ends-after _ (nodeAt depth n ∷ []) (chain .nodes) (links .at-link n 0 st (count + 1) (depth + 1) (rules st n pass) chainFails))
       go false e =
           let wrong = eqb-false (fault st n) 0 e in
           let own : visited rd fault next n st depth ≡ record { passes = false; nodes = nodeAt depth n ∷ [] } =
-          entered-node rd fault next n p st count depth ∙ simp (enterNode, e) in
+          visited-node rd fault next n p st count depth ∙ simp (visitNode, e) in
           let same : walkNode rd fault next n st count .at ≡ n = ap (λ (a : Answer). a .at) (node-stop rd fault next n st count p wrong) in
           rw (same, own) (record { first = []; depth = depth; whole = refl })
 
@@ -66,32 +66,32 @@ module _ {S : Type 0} (mode : ℕ) (rd : Reader) (fault : S → ℕ → ℕ) (ne
     abbrev first : Answer
     first = walkNode rd fault next (lower rd c 1) (next st n b) count
 
-    abbrev one : Entered
+    abbrev one : Visit
     one = visited rd fault next (lower rd c 1) (next st n b) depth
 
-    abbrev others : Entered
+    abbrev others : Visit
     others = followed rd fault next (lower rd c 3) n (b + 1) st depth
 
     nodes-all : (isRule mode (rd (lower rd c 1) 0) ≡ true) × (every (λ x. isRule mode (rd x 0)) (items rd (lower rd c 3)) ≡ true)
     nodes-all = every-head (λ x. isRule mode (rd x 0)) (lower rd c 1) (items rd (lower rd c 3)) (rw (items-step rd c p) at all)
 
     link-turn : EndsAt (walkLinks rd fault next c n b st count .at) (followed rd fault next c n b st depth .nodes)
-    unfolding goOn
+    unfolding goOn visitFrom
     link-turn = go (one .passes) refl
       where
         accepts : eqb (first .refusal) 0 ≡ one .passes
-        accepts = visit-agrees rd fault next (lower rd c 1) (next st n b) count depth .accepts
+        accepts = walk-entered rd fault next (lower rd c 1) (next st n b) count depth .accepts
 
         go : (t : Bool) → one .passes ≡ t → EndsAt (walkLinks rd fault next c n b st count .at) (followed rd fault next c n b st depth .nodes)
         go true e =
             let own : followed rd fault next c n b st depth ≡ record { passes = others .passes; nodes = one .nodes ++ others .nodes } =
-            entered-link rd fault next c p n b st count depth ∙ simp (goOn, e) in
+            visited-link rd fault next c p n b st count depth ∙ simp (goOn, e) in
             let same : walkLinks rd fault next c n b st count .at ≡ walkLinks rd fault next (lower rd c 3) n (b + 1) st (first .nodes) .at =
             ap (λ (a : Answer). a .at) (link-go rd fault next n b st count c p (eqb-true _ 0 (accepts ∙ e))) in
-            let below : others .passes ≡ false = ap (λ (x : Entered). x .passes) (sym own) ∙ fails in
-            rw (same, own) (ends-after _ (one .nodes) (others .nodes) (rest .at-link n (b + 1) st (first .nodes) depth (nodes-all .1) below))
+            let othersFail : others .passes ≡ false = ap (λ (x : Visit). x .passes) (sym own) ∙ fails in
+            rw (same, own) (ends-after _ (one .nodes) (others .nodes) (rest .at-link n (b + 1) st (first .nodes) depth (nodes-all .1) othersFail))
         go false e =
-            let own : followed rd fault next c n b st depth ≡ one = entered-link rd fault next c p n b st count depth ∙ simp (goOn, e) in
+            let own : followed rd fault next c n b st depth ≡ one = visited-link rd fault next c p n b st count depth ∙ simp (goOn, e) in
             let same : walkLinks rd fault next c n b st count .at ≡ first .at =
             ap (λ (a : Answer). a .at) (link-stop rd fault next n b st count c p (eqb-false _ 0 (accepts ∙ e))) in
             rw (same, own) (item .at-node (next st n b) count depth (nodes-all .0) e)
@@ -100,7 +100,7 @@ module _ {S : Type 0} (mode : ℕ) (rd : Reader) (fault : S → ℕ → ℕ) (ne
   faulty = below Faulty step
     where
       no-link : (n b : ℕ) (st : S) (depth : ℕ) → followed rd fault next 0 n b st depth .passes ≡ true
-      no-link n b st depth = ap (λ (w : Entering S). w .link n b st depth .passes) (entering-zero rd fault next)
+      no-link n b st depth = ap (λ (w : Visits S). w .link n b st depth .passes) (visits-zero rd fault next)
 
       step : (i : ℕ) → ((j : ℕ) → j < i → Faulty j) → Faulty i
       step zero ih = record {
@@ -115,7 +115,7 @@ module _ {S : Type 0} (mode : ℕ) (rd : Reader) (fault : S → ℕ → ℕ) (ne
           record { at-node = λ st count depth r fails. node-turn (suc i) p links st count depth fails; at-link = link-turn (suc i) p item rest }
 
   -- the walk from rule node n
-  pub walk-faulty : (n : ℕ) (st : S) (count depth : ℕ) → isRule mode (rd n 0) ≡ true → enteredFrom rd fault next n st depth .passes ≡ false →
-      EndsAt (walkNode rd fault next n st count .at) (enteredFrom rd fault next n st depth .nodes)
-  unfolding enteredFrom
+  pub walk-faulty : (n : ℕ) (st : S) (count depth : ℕ) → isRule mode (rd n 0) ≡ true → visitFrom rd fault next n st depth .passes ≡ false →
+      EndsAt (walkNode rd fault next n st count .at) (visitFrom rd fault next n st depth .nodes)
+  unfolding visitFrom
   walk-faulty n = faulty n .at-node

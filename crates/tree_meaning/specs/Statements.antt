@@ -9,24 +9,24 @@ use Rattle.reader.specs.Kinds.{modes}
 use Rattle.reader.specs.Places.{rootOf, reading}
 use Rattle.reader_laws.specs.File.{beside}
 use Rattle.proof_rules.specs.Check.{nodeFault, premiseSequent, startSequent, proofWalk, proofAnswer}
-use Rattle.tree_rules.specs.Order.{Node, order}
+use Rattle.tree_rules.specs.Order.{order}
 use Rattle.tree_rules.specs.Listing.{entered}
-use Rattle.tree_meaning.specs.Walked.{Entered, enteredFrom, EndsAt}
+use Rattle.tree_meaning.specs.Walked.{Visit, visitFrom, EndsAt}
 
 -- what the proof check's walk enters, from the root on
-abbrev pub rootEntered : List ℕ → List ℕ → Entered
-rootEntered ob pf =
-    enteredFrom (beside ob pf) (nodeFault (beside ob pf)) (premiseSequent (beside ob pf)) (rootOf pf) (startSequent (beside ob pf)) 0
+abbrev pub rootVisit : List ℕ → List ℕ → Visit
+rootVisit ob pf =
+    visitFrom (beside ob pf) (nodeFault (beside ob pf)) (premiseSequent (beside ob pf)) (rootOf pf) (startSequent (beside ob pf)) 0
 
 -- These are the nodes of the walk that `proofAnswer` is defined by: all pass where it accepts, and it counts as many.
 abbrev pub WalkCounts : Type 0
 WalkCounts = (ob pf : List ℕ) →
-    (eqb (proofWalk (beside ob pf) (rootOf pf) .refusal) 0 ≡ rootEntered ob pf .passes)
-    × (proofWalk (beside ob pf) (rootOf pf) .nodes ≡ length (rootEntered ob pf .nodes))
+    (eqb (proofWalk (beside ob pf) (rootOf pf) .refusal) 0 ≡ rootVisit ob pf .passes)
+    × (proofWalk (beside ob pf) (rootOf pf) .nodes ≡ length (rootVisit ob pf .nodes))
 
 -- The nodes listed are those that the walk enters, in its order; none where a place before the walk refuses.
 abbrev pub EnteredWalk : Type 0
-EnteredWalk = (ob pf : List ℕ) → entered ob pf ≡ ifEq (reading (modes .proof) ob pf .refusal) 0 (rootEntered ob pf .nodes) []
+EnteredWalk = (ob pf : List ℕ) → entered ob pf ≡ ifEq (reading (modes .proof) ob pf .refusal) 0 (rootVisit ob pf .nodes) []
 
 -- They are as many as the answer counts.
 abbrev pub EnteredCount : Type 0

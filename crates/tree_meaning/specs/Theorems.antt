@@ -1,10 +1,10 @@
 -- The proofs of `Statements`.
-use Prim.Native.Nat.{ℕ, _+_, _≤_}
+use Prim.Native.Nat.{ℕ, _≤_}
 use mathlib.Core.Path.{_≡_, refl, sym, ap, _∙_}
 use mathlib.Core.List.{List, [], _++_, flatMap}
 use mathlib.Core.Bool.{Bool, true, false}
 use lib.Dec.{eqb}
-use lib.ListN.{length, take}
+use lib.ListN.{length}
 use native.Mathlib.Omega.{arith}
 use borrow.Author.Tests.{eqb-true, eq-eqb, ne-eqb}
 use Rattle.reader.specs.declared.Answer.{Answer}
@@ -27,11 +27,11 @@ use Rattle.tree_meaning.specs.Walked.{EndsAt}
 use Rattle.tree_meaning.specs.Faulty.{walk-faulty}
 use Rattle.tree_meaning.specs.WalkedLaws.{Agrees, all-entered, first-entered, walk-entered}
 use Rattle.tree_meaning.specs.BeforeWalk.{reading-none}
-use Rattle.tree_meaning.specs.Statements.{rootEntered, WalkCounts, EnteredWalk, EnteredCount, EnteredAll, RefusedLast, FewNodes}
+use Rattle.tree_meaning.specs.Statements.{rootVisit, WalkCounts, EnteredWalk, EnteredCount, EnteredAll, RefusedLast, FewNodes}
 
 module _ (ob pf : List ℕ) where
   -- the walk from the root
-  root-agrees : Agrees (proofWalk (beside ob pf) (rootOf pf)) 0 (rootEntered ob pf) (order (beside ob pf) (rootOf pf) 0)
+  root-agrees : Agrees (proofWalk (beside ob pf) (rootOf pf)) 0 (rootVisit ob pf) (order (beside ob pf) (rootOf pf) 0)
   unfolding proofWalk
   root-agrees = walk-entered (beside ob pf) (nodeFault (beside ob pf)) (premiseSequent (beside ob pf)) (rootOf pf) (startSequent (beside ob pf)) 0 0
 
@@ -52,7 +52,7 @@ unfolding entered ifEq
 entered-walk ob pf = go (eqb (reading 1 ob pf .refusal) 0) refl
   where
     go : (t : Bool) → eqb (reading 1 ob pf .refusal) 0 ≡ t →
-        entered ob pf ≡ elim t as (λ x. List Node) [ true ↦ rootEntered ob pf .nodes | false ↦ [] ]
+        entered ob pf ≡ elim t as (λ x. List Node) [ true ↦ rootVisit ob pf .nodes | false ↦ [] ]
     go true e = rw (answer-walk ob pf (eqb-true _ 0 e)) (first-entered (root-agrees ob pf))
     go false e = rw (answer-none ob pf e)
 
@@ -62,7 +62,7 @@ entered-count ob pf = go (eqb (reading 1 ob pf .refusal) 0) refl
   where
     go : (t : Bool) → eqb (reading 1 ob pf .refusal) 0 ≡ t → length (entered ob pf) ≡ proofAnswer ob pf .nodes
     go true e =
-        let same : entered ob pf ≡ rootEntered ob pf .nodes = entered-walk ob pf ∙ simp (ifEq, e) in
+        let same : entered ob pf ≡ rootVisit ob pf .nodes = entered-walk ob pf ∙ simp (ifEq, e) in
         ap length same ∙ sym (walk-counts ob pf .1) ∙ ap (λ (a : Answer). a .nodes) (sym (answer-walk ob pf (eqb-true _ 0 e)))
     go false e =
         let same : entered ob pf ≡ [] = entered-walk ob pf ∙ simp (ifEq, e) in
@@ -88,7 +88,7 @@ module _ (ob pf : List ℕ) (h : reading 1 ob pf .refusal ≡ 0) where
       go true e = let read = reading-parts 1 ob pf h in absurd (omega (arith, rule-range 1 ob pf (read .0) (read .1) 0 e .0))
       go false e = refl
 
-  walk-last : rootEntered ob pf .passes ≡ false → EndsAt (proofWalk (beside ob pf) (rootOf pf) .at) (rootEntered ob pf .nodes)
+  walk-last : rootVisit ob pf .passes ≡ false → EndsAt (proofWalk (beside ob pf) (rootOf pf) .at) (rootVisit ob pf .nodes)
   unfolding proofWalk
   walk-last fails =
       walk-faulty 1 (beside ob pf) (nodeFault (beside ob pf)) (premiseSequent (beside ob pf)) rules header-no-rule (rootOf pf) (startSequent (beside ob pf)) 0 0
@@ -113,9 +113,9 @@ pub refused-last : RefusedLast
 unfolding ifEq
 refused-last ob pf h refuses =
     let walk = answer-walk ob pf h in
-    let fails : rootEntered ob pf .passes ≡ false =
+    let fails : rootVisit ob pf .passes ≡ false =
     sym (walk-counts ob pf .0) ∙ ne-eqb _ 0 (λ e. refuses (ap (λ (a : Answer). a .refusal) walk ∙ e)) in
-    let same : entered ob pf ≡ rootEntered ob pf .nodes = entered-walk ob pf ∙ simp (ifEq, eq-eqb _ 0 h) in
+    let same : entered ob pf ≡ rootVisit ob pf .nodes = entered-walk ob pf ∙ simp (ifEq, eq-eqb _ 0 h) in
     rw (same, walk) (walk-last ob pf h fails)
 
 pub few-nodes : FewNodes

@@ -13,16 +13,16 @@ use Rattle.reader.specs.Words.{Reader}
 use Rattle.reader.specs.DownLaws.{Local, down-zero, down-step}
 use Rattle.reader.specs.Trees.{lower}
 use Rattle.reader.specs.TreeLaws.{below, lower-below}
-use Rattle.reader.specs.Answers.{answer, accepted}
+use Rattle.reader.specs.Answers.{answer}
 use Rattle.reader.specs.Walk as walk
 use Rattle.reader.specs.Walk.{walkNode, walkLinks}
 use Rattle.reader.specs.WalkLaws.{node-go, node-stop, link-zero, link-go, link-stop}
 use Rattle.tree_rules.specs.Order.{Node, nodeAt, order}
 use Rattle.tree_rules.specs.OrderLaws.{orderFrom, order-zero, order-node, order-end, order-link}
-use Rattle.tree_meaning.specs.Walked.{Entered, goOn, Entering, enterNode, enterLink, enterStep, noEntering, entering, enteredFrom}
+use Rattle.tree_meaning.specs.Walked.{Visit, goOn, Visits, visitNode, visitLink, visitStep, noVisits, visits, visitFrom}
 
 -- The walk answers a, having counted `count` nodes before, and enters e; `all` are the nodes that it would enter if no test failed.
-pub record Agrees (a : Answer) (count : ℕ) (e : Entered) (all : List Node) : Type 0 where
+pub record Agrees (a : Answer) (count : ℕ) (e : Visit) (all : List Node) : Type 0 where
   pub accepts : eqb (a .refusal) 0 ≡ e .passes
   pub counts : a .nodes ≡ count + length (e .nodes)
   pub rest : List Node
@@ -30,32 +30,32 @@ pub record Agrees (a : Answer) (count : ℕ) (e : Entered) (all : List Node) : T
   pub none : e .passes ≡ true → rest ≡ []
 
 -- where it accepts, it enters all
-pub all-entered : {a : Answer} {count : ℕ} {e : Entered} {all : List Node} → Agrees a count e all → e .passes ≡ true → all ≡ e .nodes
+pub all-entered : {a : Answer} {count : ℕ} {e : Visit} {all : List Node} → Agrees a count e all → e .passes ≡ true → all ≡ e .nodes
 all-entered {e = e} w h = w .whole ∙ ap (λ (l : List Node). e .nodes ++ l) (w .none h) ∙ append-nil (e .nodes)
 
 -- the nodes entered are the first ones
-pub first-entered : {a : Answer} {e : Entered} {all : List Node} → Agrees a 0 e all → take (a .nodes) all ≡ e .nodes
+pub first-entered : {a : Answer} {e : Visit} {all : List Node} → Agrees a 0 e all → take (a .nodes) all ≡ e .nodes
 first-entered {a = a} {e = e} w = let n : a .nodes ≡ length (e .nodes) = omega (arith, w .counts) in rw (n, w .whole) (take-append-seam (e .nodes) (w .rest))
 
 module _ {S : Type 0} (rd : Reader) (fault : S → ℕ → ℕ) (next : S → ℕ → ℕ → S) where
-  entering-local : Local (enterStep rd fault next)
-  unfolding enterStep
-  entering-local f g i p h = rw (h _ (lower-below rd i 1 p), h _ (lower-below rd i 2 p), h _ (lower-below rd i 3 p))
+  visits-local : Local (visitStep rd fault next)
+  unfolding visitStep
+  visits-local f g i p h = rw (h _ (lower-below rd i 1 p), h _ (lower-below rd i 2 p), h _ (lower-below rd i 3 p))
 
-  entering-step : (i : ℕ) → 0 < i → entering rd fault next i ≡ enterStep rd fault next (entering rd fault next) i
-  unfolding entering
-  entering-step i p = down-step (noEntering rd fault next) (enterStep rd fault next) entering-local i p
+  visits-step : (i : ℕ) → 0 < i → visits rd fault next i ≡ visitStep rd fault next (visits rd fault next) i
+  unfolding visits
+  visits-step i p = down-step (noVisits rd fault next) (visitStep rd fault next) visits-local i p
 
-  pub entering-zero : entering rd fault next 0 ≡ noEntering rd fault next
-  unfolding entering
-  entering-zero = down-zero (noEntering rd fault next) (enterStep rd fault next)
+  pub visits-zero : visits rd fault next 0 ≡ noVisits rd fault next
+  unfolding visits
+  visits-zero = down-zero (noVisits rd fault next) (visitStep rd fault next)
 
   -- the nodes entered at a record: as a node, and as a link
-  abbrev pub visited : ℕ → S → ℕ → Entered
-  visited i = entering rd fault next i .node
+  abbrev pub visited : ℕ → S → ℕ → Visit
+  visited i = visits rd fault next i .node
 
-  abbrev pub followed : ℕ → ℕ → ℕ → S → ℕ → Entered
-  followed i = entering rd fault next i .link
+  abbrev pub followed : ℕ → ℕ → ℕ → S → ℕ → Visit
+  followed i = visits rd fault next i .link
 
   record Walked (i : ℕ) : Type 0 where
     at-node : (st : S) (count depth : ℕ) → Agrees (walkNode rd fault next i st count) count (visited i st depth) (order rd i depth)
@@ -69,27 +69,27 @@ module _ {S : Type 0} (rd : Reader) (fault : S → ℕ → ℕ) (next : S → �
 
   no-node : (st : S) (count depth : ℕ) → Agrees (walkNode rd fault next 0 st count) count (visited 0 st depth) (order rd 0 depth)
   no-node st count depth =
-      rw (walk-none st count, ap (λ (w : Entering S). w .node st depth) entering-zero, order-zero rd depth)
+      rw (walk-none st count, ap (λ (w : Visits S). w .node st depth) visits-zero, order-zero rd depth)
       (record { accepts = refl; counts = omega arith; rest = []; whole = refl; none = λ h. refl })
 
   no-link : (n b : ℕ) (st : S) (count depth : ℕ) → Agrees (walkLinks rd fault next 0 n b st count) count (followed 0 n b st depth) (orderFrom rd 0 depth)
   no-link n b st count depth =
-      rw (link-zero rd fault next n b st count, ap (λ (w : Entering S). w .link n b st depth) entering-zero, order-end rd depth)
+      rw (link-zero rd fault next n b st count, ap (λ (w : Visits S). w .link n b st depth) visits-zero, order-end rd depth)
       (record { accepts = refl; counts = omega arith; rest = []; whole = refl; none = λ h. refl })
 
   -- a node, from its chain of premises
   module _ (n : ℕ) (p : 0 < n) (st : S) (count depth : ℕ) where
-    pub entered-node : visited n st depth ≡ enterNode rd fault next (entering rd fault next (lower rd n 2)) n st depth
-    unfolding enterStep
-    entered-node = ap (λ (w : Entering S). w .node st depth) (entering-step n p)
+    pub visited-node : visited n st depth ≡ visitNode rd fault next (visits rd fault next (lower rd n 2)) n st depth
+    unfolding visitStep
+    visited-node = ap (λ (w : Visits S). w .node st depth) (visits-step n p)
 
     node-passes : fault st n ≡ 0 →
         Agrees (walkLinks rd fault next (lower rd n 2) n 0 st (count + 1)) (count + 1) (followed (lower rd n 2) n 0 st (depth + 1))
         (orderFrom rd (lower rd n 2) (depth + 1)) → Agrees (walkNode rd fault next n st count) count (visited n st depth) (order rd n depth)
-    unfolding enterNode
+    unfolding visitNode
     node-passes pass w =
-        rw (node-go rd fault next n st count p pass, entered-node, order-node rd n depth p)
-        (simp (enterNode, pass) (record {
+        rw (node-go rd fault next n st count p pass, visited-node, order-node rd n depth p)
+        (simp (visitNode, pass) (record {
           accepts = w .accepts;
           counts = omega (arith, w .counts);
           rest = w .rest;
@@ -98,10 +98,10 @@ module _ {S : Type 0} (rd : Reader) (fault : S → ℕ → ℕ) (next : S → �
         }))
 
     node-fails : (fault st n ≡ 0 → ⊥) → Agrees (walkNode rd fault next n st count) count (visited n st depth) (order rd n depth)
-    unfolding enterNode
+    unfolding visitNode
     node-fails fails =
-        rw (node-stop rd fault next n st count p fails, entered-node, order-node rd n depth p)
-        (simp (enterNode, ne-eqb (fault st n) 0 fails) (record {
+        rw (node-stop rd fault next n st count p fails, visited-node, order-node rd n depth p)
+        (simp (visitNode, ne-eqb (fault st n) 0 fails) (record {
           accepts = ne-eqb (fault st n) 0 fails;
           counts = omega arith;
           rest = orderFrom rd (lower rd n 2) (depth + 1);
@@ -114,15 +114,15 @@ module _ {S : Type 0} (rd : Reader) (fault : S → ℕ → ℕ) (next : S → �
     abbrev first : Answer
     first = walkNode rd fault next (lower rd c 1) (next st n b) count
 
-    abbrev pub item : Entered
+    abbrev item : Visit
     item = visited (lower rd c 1) (next st n b) depth
 
-    abbrev pub others : Entered
+    abbrev others : Visit
     others = followed (lower rd c 3) n (b + 1) st depth
 
-    pub entered-link : followed c n b st depth ≡ goOn item others
-    unfolding enterStep enterLink
-    entered-link = ap (λ (w : Entering S). w .link n b st depth) (entering-step c p)
+    pub visited-link : followed c n b st depth ≡ goOn item others
+    unfolding visitStep visitLink
+    visited-link = ap (λ (w : Visits S). w .link n b st depth) (visits-step c p)
 
     link-passes : Agrees first count item (order rd (lower rd c 1) depth) → first .refusal ≡ 0 →
         Agrees (walkLinks rd fault next (lower rd c 3) n (b + 1) st (first .nodes)) (first .nodes) others (orderFrom rd (lower rd c 3) depth) →
@@ -130,7 +130,7 @@ module _ {S : Type 0} (rd : Reader) (fault : S → ℕ → ℕ) (next : S → �
     unfolding goOn
     link-passes one accepts more =
         let passes : item .passes ≡ true = sym (one .accepts) ∙ eq-eqb (first .refusal) 0 accepts in
-        rw (link-go rd fault next n b st count c p accepts, entered-link, order-link rd c depth p)
+        rw (link-go rd fault next n b st count c p accepts, visited-link, order-link rd c depth p)
         (simp (goOn, passes) (record {
           accepts = more .accepts;
           counts = omega (arith, more .counts, one .counts, length-append (item .nodes) (others .nodes));
@@ -145,7 +145,7 @@ module _ {S : Type 0} (rd : Reader) (fault : S → ℕ → ℕ) (next : S → �
     unfolding goOn
     link-fails one refuses =
         let fails : item .passes ≡ false = sym (one .accepts) ∙ ne-eqb (first .refusal) 0 refuses in
-        rw (link-stop rd fault next n b st count c p refuses, entered-link, order-link rd c depth p)
+        rw (link-stop rd fault next n b st count c p refuses, visited-link, order-link rd c depth p)
         (simp (goOn, fails) (record {
           accepts = one .accepts;
           counts = one .counts;
@@ -187,10 +187,6 @@ module _ {S : Type 0} (rd : Reader) (fault : S → ℕ → ℕ) (next : S → �
 
   -- the walk from node n
   pub walk-entered : (n : ℕ) (st : S) (count depth : ℕ) →
-      Agrees (walkNode rd fault next n st count) count (enteredFrom rd fault next n st depth) (order rd n depth)
-  unfolding enteredFrom
+      Agrees (walkNode rd fault next n st count) count (visitFrom rd fault next n st depth) (order rd n depth)
+  unfolding visitFrom
   walk-entered n = walked n .at-node
-
-  -- the walk at a record, as a node of a chain
-  pub visit-agrees : (n : ℕ) (st : S) (count depth : ℕ) → Agrees (walkNode rd fault next n st count) count (visited n st depth) (order rd n depth)
-  visit-agrees n = walked n .at-node

@@ -35,6 +35,6 @@ put-translation-spec = tie.close (tie.spec
     record {
       whole = omega arith;
       inside = omega arith;
-      text = translation-line-of _ _ _ _ _ _ _ _ none (bytes .2) (nodes .2) (at .2) (file .2) (refusal .2);
+      stands = translation-line-of _ _ _ _ _ _ _ _ none (bytes .2) (nodes .2) (at .2) (file .2) (refusal .2);
       kept = kept-on _ _ _ _ _ (refusal .0) (refusal .3) four;
     }))
