@@ -17,7 +17,7 @@ use Rattle.reader.specs.Members.{premisesFit}
 use Rattle.reader.specs.Walk.{andThen, walkNode}
 use Rattle.reader_laws.specs.Scan.{both-parts, demand-parts}
 use Rattle.reader_laws.specs.File.{beside, lastOf, ReadObligation, ReadSecond, reading-parts}
-use Rattle.reader_laws.specs.File.{length-parts, header-parts, counts-parts}
+use Rattle.reader_laws.specs.File.{length-parts, header-parts, records-few}
 use Rattle.reader_laws.specs.Pair.{root-range}
 use Rattle.reader_laws.specs.Under.{under, root-under}
 use Rattle.reader_laws.specs.Entered.{node-count}
@@ -28,7 +28,7 @@ use Rattle.derivation_rules.specs.Check as derivation
 use Rattle.derivation_rules.specs.Check.{derivationWalk, derivationAnswer, startState, premiseState}
 use Rattle.translation_rules.specs.Check.{roomFor, translationAnswer}
 use Rattle.favashears_bounds.specs.Bounds.{Bounded}
-use Rattle.favashears_bounds.specs.ReadingBounds.{demand-most, or-bounded, reading-bounded, second-few}
+use Rattle.favashears_bounds.specs.ReadingBounds.{demand-most, or-bounded, reading-bounded}
 use Rattle.favashears_bounds.specs.WalkBounds.{Within, node-within}
 
 -- A walk from the root of a second file, of any calculus whose nodes that pass their tests have rule nodes for premises.
@@ -41,9 +41,7 @@ module _ {S : Type 0} (mode : ℕ) (limit : mostRecords mode ≤ 200001) (ob s :
   few =
       let own = length-parts 0 ob (r .lengthOf) .2 in
       let count = header-parts ob (r .header) .1 in
-      let second = length-parts mode s (t .lengthOf) .2 in
-      let second-count = header-parts s (counts-parts ob s (t .counts) .0) .1 in
-      (omega (arith, own, count), omega (arith, second, second-count, limit))
+      (omega (arith, own, count), omega (arith, records-few mode ob s t, limit))
 
   walk-bounded : Bounded (walkNode (beside ob s) fault next (rootOf s) st 0)
   walk-bounded =

@@ -107,7 +107,7 @@ obligation-bounded ob =
     (λ r. test-bounded (both (goalFits (word ob [] (countOf ob))) (hypothesesFit (word ob [] (countOf ob)))) 11 1 (omega arith) (omega arith))))
 
 module _ (mode : ℕ) (few : mostRecords mode ≤ 200001) (ob s : List ℕ) (own : countOf ob ≤ 1023) where
-  pub second-few : lengthFits mode s ≡ true → countsFit ob s ≡ true → countOf s ≤ 200000
+  second-few : lengthFits mode s ≡ true → countsFit ob s ≡ true → countOf s ≤ 200000
   second-few l c =
       let most = length-parts mode s l .2 in
       let count = header-parts s (counts-parts ob s c .0) .1 in

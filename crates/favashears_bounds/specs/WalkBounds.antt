@@ -7,11 +7,10 @@ use native.Mathlib.Omega.{arith}
 use borrow.Author.Tests.{eqb-true, eqb-false}
 use Rattle.reader.specs.declared.Answer.{Answer}
 use Rattle.reader.specs.Words.{Reader}
-use Rattle.reader.specs.DownLaws.{down-zero}
 use Rattle.reader.specs.Trees.{lower}
 use Rattle.reader.specs.TreeLaws.{below, lower-below}
-use Rattle.reader.specs.Walk.{Walks, walkStep, noWalk, walks, walkNode, walkLinks}
-use Rattle.reader.specs.WalkLaws.{node-go, node-stop, link-zero, link-go, link-stop}
+use Rattle.reader.specs.Walk.{walkNode, walkLinks}
+use Rattle.reader.specs.WalkLaws.{node-zero, node-go, node-stop, link-zero, link-go, link-stop}
 
 -- an answer of the walk from record n on
 pub record Within (n : ℕ) (a : Answer) : Type 0 where
@@ -40,9 +39,8 @@ module _ {S : Type 0} (rd : Reader) (fault : S → ℕ → ℕ) (next : S → �
 
   -- record 0
   no-node : (st : S) (count : ℕ) → Within 0 (visit 0 st count)
-  unfolding walkNode walks
   no-node st count =
-      subst (Within 0) (sym (ap (λ (w : Walks S). w .node st count) (down-zero (noWalk rd fault next) (walkStep rd fault next))))
+      subst (Within 0) (sym (node-zero rd fault next st count))
       (record { refusalAtMost = omega arith; fileAtMost = omega arith; recordAtMost = omega arith })
 
   no-link : (n b : ℕ) (st : S) (count : ℕ) → Within 0 (follow 0 n b st count)

@@ -14,7 +14,7 @@ use Rattle.reader.specs.Words.{word}
 use Rattle.reader.specs.Places.{mostRecords, countOf, rootOf, reading}
 use Rattle.reader.specs.Walk.{andThen}
 use Rattle.reader_laws.specs.Scan.{orAnswer-parts}
-use Rattle.reader_laws.specs.File.{reading-parts, length-parts, header-parts, counts-parts}
+use Rattle.reader_laws.specs.File.{reading-parts, records-few}
 use Rattle.proof_rules.specs.Check.{proofWalk, proofAnswer}
 use Rattle.derivation_rules.specs.Check.{derivationWalk, derivationAnswer}
 use Rattle.translation_rules.specs.Check.{roomFor, translationAnswer}
@@ -35,10 +35,7 @@ derivation-enough = any-answer.enough 2 (λ ob dv. derivationWalk (word ob dv (c
 -- an accepted proof has at most 3,072 records after its header
 few-records : (ob pf : List ℕ) → proofAnswer ob pf .refusal ≡ 0 → countOf pf + 1 ≤ 3073
 unfolding proofAnswer mostRecords ifEq
-few-records ob pf h =
-    let second = reading-parts 1 ob pf (orAnswer-parts (reading 1 ob pf) _ h .0) .1 in
-    let most = length-parts 1 pf (second .lengthOf) .2 in
-    omega (arith, header-parts pf (counts-parts ob pf (second .counts) .0) .1)
+few-records ob pf h = records-few 1 ob pf (reading-parts 1 ob pf (orAnswer-parts (reading 1 ob pf) _ h .0) .1)
 
 -- The buffer is never too small: the four numbers are the proof check's
 pub room-for-all : (ob pf : List ℕ) → translationAnswer ob pf bufferSize ≡ proofAnswer ob pf

@@ -11,7 +11,7 @@ use lib.Seq.{take-all, take-take, take-set-le, drop-cons, getD-set-same, drop-se
 use Rattle.reader.specs.Tests.{ifLt}
 use Rattle.reader.specs.DownLaws.{Local, down-zero, down-step}
 use Rattle.reader.specs.declared.Answer.{Answer}
-use Rattle.programs_lines.specs.Lines.{digit, decimalStep, decimal, numbersLine, line, EndsIn, translationLine, TranslationEndsIn}
+use Rattle.programs_lines.specs.Lines.{digit, decimalStep, decimal, numbersLine, line, translationLine, EndsIn}
 
 step-local : Local decimalStep
 unfolding decimalStep
@@ -94,12 +94,12 @@ numbers-line-of a b c d end s₁ s₂ s₃ s₄ none e₁ e₂ e₃ e₄ = rw (e
 
 -- the line of an answer has its four numbers
 pub line-ends-in : (a : Answer) (before out : List ℕ) (begin : ℕ) →
-    EndsIn (numbersLine (a .refusal) (a .file) (a .at) (a .nodes)) before out begin → EndsIn (line a) before out begin
+    EndsIn 84 (numbersLine (a .refusal) (a .file) (a .at) (a .nodes)) before out begin → EndsIn 84 (line a) before out begin
 unfolding line
 line-ends-in a before out begin w = w
 
 -- an area that ends in the line of an answer ends in that of an equal one
-pub ends-in-equal : (a b : Answer) (before out : List ℕ) (begin : ℕ) → a ≡ b → EndsIn (line a) before out begin → EndsIn (line b) before out begin
+pub ends-in-equal : (a b : Answer) (before out : List ℕ) (begin : ℕ) → a ≡ b → EndsIn 84 (line a) before out begin → EndsIn 84 (line b) before out begin
 ends-in-equal a b before out begin e w = rw (← e) w
 
 -- five numbers written before each other, nothing after them
@@ -108,19 +108,7 @@ pub translation-line-of : (a : Answer) (n : ℕ) (end s₁ s₂ s₃ s₄ s₅ :
 unfolding translationLine
 translation-line-of a n end s₁ s₂ s₃ s₄ s₅ none e₁ e₂ e₃ e₄ e₅ = rw (e₅, e₄, e₃, e₂, e₁, none)
 
--- the line of an answer and a length is that of an equal answer
-pub translation-ends-in-equal : (a b : Answer) (n : ℕ) (before out : List ℕ) (begin : ℕ) → a ≡ b →
-    TranslationEndsIn a n before out begin → TranslationEndsIn b n before out begin
-translation-ends-in-equal a b n before out begin e w = rw (← e) w
-
--- The slice from the line's begin to the area's end is the line.
-
-slice-is : (out text : List ℕ) (begin size : ℕ) → size ≡ length out → drop begin out ≡ text → take (size - begin) (drop begin out) ≡ text
-slice-is out text begin size whole e = take-all (size - begin) (drop begin out) (omega (arith, length-drop begin out, whole)) ∙ e
-
-pub line-slice : (text before out : List ℕ) (begin : ℕ) → EndsIn text before out begin → take (84 - begin) (drop begin out) ≡ text
-line-slice text before out begin e = slice-is out text begin 84 (e .whole) (e .stands)
-
-pub translation-slice : (a : Answer) (n : ℕ) (before out : List ℕ) (begin : ℕ) → TranslationEndsIn a n before out begin →
-    take (105 - begin) (drop begin out) ≡ translationLine a n
-translation-slice a n before out begin e = slice-is out (translationLine a n) begin 105 (e .whole) (e .stands)
+-- the slice from the text's begin to the area's end is the text
+pub line-slice : (size : ℕ) (text before out : List ℕ) (begin : ℕ) → EndsIn size text before out begin → take (size - begin) (drop begin out) ≡ text
+line-slice size text before out begin e =
+    take-all (size - begin) (drop begin out) (omega (arith, length-drop begin out, e .whole)) ∙ e .stands

@@ -27,23 +27,16 @@ numbersLine a b c d = decimal a ++ (32 ∷ decimal b ++ (32 ∷ decimal c ++ (32
 unfoldable pub line : Answer → List ℕ
 line a = numbersLine (a .refusal) (a .file) (a .at) (a .nodes)
 
--- an area of 84 bytes, room for four numbers of at most 20 digits with a byte after each, whose last bytes, from place `begin` on, are the text; those before
--- them are as they were
-pub record EndsIn (text before out : List ℕ) (begin : ℕ) : Type 0 where
-  pub whole : 84 ≡ length out
-  pub inside : begin < 84
-  pub stands : drop begin out ≡ text
-  pub kept : take begin out ≡ take begin before
-
 -- the four numbers and the derivation's length
 unfoldable pub translationLine : Answer → ℕ → List ℕ
 translationLine a n =
     decimal (a .refusal)
     ++ (32 ∷ decimal (a .file) ++ (32 ∷ decimal (a .at) ++ (32 ∷ decimal (a .nodes) ++ (32 ∷ decimal n ++ (10 ∷ [])))))
 
--- the same for an area of 105 bytes and a line of five numbers
-pub record TranslationEndsIn (a : Answer) (n : ℕ) (before out : List ℕ) (begin : ℕ) : Type 0 where
-  pub whole : 105 ≡ length out
-  pub inside : begin < 105
-  pub stands : drop begin out ≡ translationLine a n
+-- An area of so many bytes whose last ones, from place `begin` on, are the text; those before them are as they were. A number has at most 20 digits and a byte
+-- after it, so 84 bytes are room for a line of four and 105 for one of five.
+pub record EndsIn (size : ℕ) (text before out : List ℕ) (begin : ℕ) : Type 0 where
+  pub whole : size ≡ length out
+  pub inside : begin < size
+  pub stands : drop begin out ≡ text
   pub kept : take begin out ≡ take begin before

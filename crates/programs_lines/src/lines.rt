@@ -4,7 +4,7 @@ ghost use mathlib.Core.Path.{_≡_};
 ghost use mathlib.Core.List.{_∷_, _++_};
 ghost use Prim.Native.Nat.{_+_, _≤_, _<_};
 ghost use lib.ListN.{length, take, drop};
-ghost use Rattle.programs_lines.specs.Lines.{decimal, numbersLine, line, EndsIn, TranslationEndsIn};
+ghost use Rattle.programs_lines.specs.Lines.{decimal, numbersLine, line, translationLine, EndsIn};
 
 // Writes a byte before place `end`; its place.
 fn put_byte(out: &mut [u8], end: usize, byte: u8) -> usize
@@ -41,7 +41,7 @@ fn put_number(out: &mut [u8], end: usize, n: usize, byte: u8) -> usize
 
 // Writes a line of four numbers at the end of the area; where it begins.
 pub fn put_numbers(out: &mut [u8; 84], a: usize, b: usize, c: usize, d: usize) -> usize
-    ensures { λ r. ⌜ EndsIn (numbersLine a b c d) (now (out .entry)) (now (out .exit)) r ⌝ }
+    ensures { λ r. ⌜ EndsIn 84 (numbersLine a b c d) (now (out .entry)) (now (out .exit)) r ⌝ }
 {
     let fourth = put_number(out, 84, d, b'\n');
     let third = put_number(out, fourth, c, b' ');
@@ -51,14 +51,14 @@ pub fn put_numbers(out: &mut [u8; 84], a: usize, b: usize, c: usize, d: usize) -
 
 // Writes the line of an answer at the end of the area; where it begins.
 pub fn put_line(out: &mut [u8; 84], a: Answer) -> usize
-    ensures { λ r. ⌜ EndsIn (line a) (now (out .entry)) (now (out .exit)) r ⌝ }
+    ensures { λ r. ⌜ EndsIn 84 (line a) (now (out .entry)) (now (out .exit)) r ⌝ }
 {
     put_numbers(out, a.refusal, a.file, a.at, a.nodes)
 }
 
 // Writes the line of a translation's answer, with the derivation's length, at the end of the area; where it begins.
 pub fn put_translation(out: &mut [u8; 105], a: Answer, bytes: usize) -> usize
-    ensures { λ r. ⌜ TranslationEndsIn a bytes (now (out .entry)) (now (out .exit)) r ⌝ }
+    ensures { λ r. ⌜ EndsIn 105 (translationLine a bytes) (now (out .entry)) (now (out .exit)) r ⌝ }
 {
     let fifth = put_number(out, 105, bytes, b'\n');
     let fourth = put_number(out, fifth, a.nodes, b' ');

@@ -12,8 +12,8 @@ use Rattle.proof_rules.specs.Check.{proofAnswer}
 use Rattle.derivation_rules.specs.Check.{derivationAnswer}
 use Rattle.translation_rules.specs.Check.{translationAnswer}
 use Rattle.translation_meaning.specs.Translates.{Translates}
-use Rattle.programs_lines.specs.Lines.{translationLine, TranslationEndsIn}
-use Rattle.programs_lines.specs.LineLaws.{translation-ends-in-equal, translation-slice}
+use Rattle.programs_lines.specs.Lines.{translationLine, EndsIn}
+use Rattle.programs_lines.specs.LineLaws.{line-slice}
 use Rattle.programs_limits.specs.Limits.{bufferSize}
 use Rattle.programs_limits.specs.Enough.{room-for-all}
 
@@ -24,7 +24,7 @@ pub record Shown (ob pf before after blank out : List ℕ) (refusal len begin : 
   pub translated : Translates ob pf before after (translationAnswer ob pf (length before)) len
   -- the derivation is saved where this is 0
   pub refusal-is : refusal ≡ translationAnswer ob pf (length before) .refusal
-  pub line-is : TranslationEndsIn (translationAnswer ob pf (length before)) len blank out begin
+  pub line-is : EndsIn 105 (translationLine (translationAnswer ob pf (length before)) len) blank out begin
   pub inside : Counts len after
 
 -- the derivation check accepts the bytes beside the obligation
@@ -33,11 +33,11 @@ Derives ob dv = (j : ℕ) × (derivationAnswer ob dv ≡ accepted j)
 
 -- the translation's own contract, and the line of the answer that it gives
 pub shown : (ob pf before after blank out : List ℕ) (a : Answer) (len begin : ℕ) → Translates ob pf before after a len
-    → TranslationEndsIn a len blank out begin → length before ≡ length after → Shown ob pf before after blank out (a .refusal) len begin
+    → EndsIn 105 (translationLine a len) blank out begin → length before ≡ length after → Shown ob pf before after blank out (a .refusal) len begin
 shown ob pf before after blank out a len begin t l e = record {
   translated = rw (← t .answers) t;
   refusal-is = ap (λ (x : Answer). x .refusal) (t .answers);
-  line-is = translation-ends-in-equal a _ len blank out begin (t .answers) l;
+  line-is = rw (← t .answers) l;
   inside = counts len after (omega (arith, t .within));
 }
 
@@ -51,4 +51,4 @@ module _ (ob pf before after blank out : List ℕ) (refusal len begin : ℕ) (s 
   pub written-line : length before ≡ bufferSize → take (105 - begin) (drop begin out) ≡ translationLine (proofAnswer ob pf) len
   written-line size =
       let same : translationAnswer ob pf (length before) ≡ proofAnswer ob pf = ap (translationAnswer ob pf) size ∙ room-for-all ob pf in
-      translation-slice _ len blank out begin (s .line-is) ∙ ap (λ (a : Answer). translationLine a len) same
+      line-slice 105 _ blank out begin (s .line-is) ∙ ap (λ (a : Answer). translationLine a len) same

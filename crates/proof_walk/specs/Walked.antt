@@ -11,14 +11,13 @@ use borrow.Author.Tests.{leb-true}
 use Rattle.reader.specs.declared.Answer.{Answer}
 use Rattle.reader.specs.Words.{Reader}
 use Rattle.reader.specs.Tests.{every}
-use Rattle.reader.specs.DownLaws.{down-zero}
 use Rattle.reader.specs.Kinds.{isRule}
 use Rattle.reader.specs.Trees.{Tree, lower}
 use Rattle.reader.specs.Chains.{items, premises}
 use Rattle.reader.specs.TreeLaws.{lower-below, items-step}
 use Rattle.reader.specs.Answers.{answer, accepted}
-use Rattle.reader.specs.Walk.{Walks, walkStep, noWalk, walks, walkNode, walkLinks}
-use Rattle.reader.specs.WalkLaws.{node-go, node-stop, link-zero, link-go, link-stop}
+use Rattle.reader.specs.Walk.{walkNode, walkLinks}
+use Rattle.reader.specs.WalkLaws.{node-zero, node-go, node-stop, link-zero, link-go, link-stop}
 use Rattle.reader_laws.specs.Scan.{both-parts, demand-parts, every-head}
 use Rattle.reader_laws.specs.Under.{under, underLinks, under-step, under-links}
 use Rattle.reader_laws.specs.Agree.{lower-most}
@@ -45,8 +44,8 @@ AreNodes rd c = every (λ x. isRule 1 (rd x 0)) (items rd c) ≡ true
 -- The ways out of `walk_node`.
 module _ (rd : Reader) (n : ℕ) (s : List Tree) (count : ℕ) where
   pub visit-none : n ≡ 0 → answer 13 2 0 count ≡ visit rd n s count
-  unfolding visit walkNode walks
-  visit-none h = rw h (sym (ap (λ (w : Walks (List Tree)). w .node s count) (down-zero (noWalk rd (nodeFault rd) (premiseSequent rd)) (walkStep rd (nodeFault rd) (premiseSequent rd)))))
+  unfolding visit
+  visit-none h = rw h (sym (node-zero rd (nodeFault rd) (premiseSequent rd) s count))
 
   module _ (pos : n ≡ 0 → ⊥) (why : ℕ) (ew : why ≡ nodeFault rd s n) where
     pub visit-stop : (why ≡ 0 → ⊥) → answer why 2 n (count + 1) ≡ visit rd n s count

@@ -64,6 +64,11 @@ module _ {S : Type 0} (rd : Reader) (fault : S → ℕ → ℕ) (next : S → �
   unfolding walks
   walk-zero = down-zero _ (walkStep rd fault next)
 
+  -- record 0 is no node
+  pub node-zero : (st : S) (count : ℕ) → visit 0 st count ≡ answer 13 2 0 count
+  unfolding walkNode
+  node-zero st count = ap (λ (w : Walks S). w .node st count) walk-zero
+
   -- The ways through a node and a link.
   module _ (n : ℕ) (st : S) (count : ℕ) where
     node-is : 0 < n → visit n st count ≡ nodeStep rd fault next (walks rd fault next (lower rd n 2)) n st count

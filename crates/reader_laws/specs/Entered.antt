@@ -9,13 +9,12 @@ use borrow.Author.Tests.{eqb-true, eqb-false}
 use Rattle.reader.specs.declared.Answer.{Answer}
 use Rattle.reader.specs.Words.{Reader}
 use Rattle.reader.specs.Tests.{every}
-use Rattle.reader.specs.DownLaws.{down-zero}
 use Rattle.reader.specs.Kinds.{isRule}
 use Rattle.reader.specs.Trees.{lower}
 use Rattle.reader.specs.Chains.{items, premises}
 use Rattle.reader.specs.TreeLaws.{below, lower-below, items-step, items-end, items-more}
-use Rattle.reader.specs.Walk.{Walks, walkStep, noWalk, walks, walkNode, walkLinks}
-use Rattle.reader.specs.WalkLaws.{node-go, node-stop, link-zero, link-go, link-stop, Each, Inherited, sound}
+use Rattle.reader.specs.Walk.{walkNode, walkLinks}
+use Rattle.reader.specs.WalkLaws.{node-zero, node-go, node-stop, link-zero, link-go, link-stop, Each, Inherited, sound}
 use Rattle.reader_laws.specs.Scan.{every-head}
 use Rattle.reader_laws.specs.Under.{under, underLinks, under-step, under-links, under-links-zero}
 
@@ -42,12 +41,9 @@ module _ {S : Type 0} (mode : ℕ) (rd : Reader) (fault : S → ℕ → ℕ) (ne
     at-link : AtLink i
 
   -- record 0
-  zero-nodes : (st : S) (count : ℕ) → visit 0 st count .nodes ≡ count
-  unfolding walkNode walks
-  zero-nodes st count = ap (λ (w : Walks S). w .node st count .nodes) (down-zero (noWalk rd fault next) (walkStep rd fault next))
-
   no-node : AtNode 0
-  no-node st count r = let same : visit 0 st count .nodes ≡ count = zero-nodes st count in omega arith
+  no-node st count r =
+      let same : visit 0 st count .nodes ≡ count = ap (λ (a : Answer). a .nodes) (node-zero rd fault next st count) in omega arith
 
   no-link : AtLink 0
   no-link n b st count h =

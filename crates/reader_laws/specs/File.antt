@@ -157,6 +157,10 @@ pub counts-parts : (ob s : List ℕ) → countsFit ob s ≡ true → (headerFits
 unfolding countsFit
 counts-parts ob s h = let a = both-parts _ _ h in (a .0, eqb-true (wordOf s 0 3) (countOf ob) (a .1))
 
+-- a second file that passes has no more records after its header than its kind may have
+pub records-few : (mode : ℕ) (ob s : List ℕ) → ReadSecond mode ob s → countOf s + 1 ≤ mostRecords mode
+records-few mode ob s t = omega (arith, length-parts mode s (t .lengthOf) .2, header-parts s (counts-parts ob s (t .counts) .0) .1)
+
 -- the goal is a closed negation
 pub goal-parts : (rd : Reader) → goalFits rd ≡ true → (rd (negatedGoal rd) 0 ≡ 18) × (isClosed (tree rd (negatedGoal rd)) ≡ true)
 unfolding goalFits

@@ -47,8 +47,8 @@ ending-refused before middle after at numbers end a h one two =
     simp (ending, ifEq, ne-eqb (a .refusal) 0 h) (appended-more before refused middle _ after at numbers end one two)
 
 -- the way out of `append_numbers`: the line stands at the end of its area of 84 bytes
-pub numbers-appended : (text blank line area after : List ℕ) (begin at end : ℕ) → EndsIn text blank line begin →
+pub numbers-appended : (text blank line area after : List ℕ) (begin at end : ℕ) → EndsIn 84 text blank line begin →
     Appended area at (take (84 - begin) (drop begin line)) after end → Appended area at text after end × (end ≤ at + 84)
 numbers-appended text blank line area after begin at end e w =
     let few : length (take (84 - begin) (drop begin line)) ≤ 84 = omega (arith, length-take (84 - begin) (drop begin line)) in
-    (rw (line-slice text blank line begin e) at w, omega (arith, w .ends))
+    (rw (line-slice 84 text blank line begin e) at w, omega (arith, w .ends))

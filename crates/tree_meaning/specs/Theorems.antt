@@ -15,7 +15,7 @@ use Rattle.reader.specs.Chains.{premises}
 use Rattle.reader.specs.Answers.{orAnswer}
 use Rattle.reader.specs.Places.{mostRecords, countOf, rootOf, reading}
 use Rattle.reader_laws.specs.Scan.{orAnswer-parts, orAnswer-join}
-use Rattle.reader_laws.specs.File.{beside, reading-parts, length-parts, header-parts, counts-parts}
+use Rattle.reader_laws.specs.File.{beside, reading-parts, records-few}
 use Rattle.reader_laws.specs.Pair.{rule-range}
 use Rattle.reader_laws.specs.Under.{root-under}
 use Rattle.reader_laws.specs.Entered.{node-count}
@@ -97,9 +97,7 @@ module _ (ob pf : List ℕ) (h : reading 1 ob pf .refusal ≡ 0) where
   -- the walk enters no more nodes than the proof has records
   few-records : countOf pf ≤ 3072
   unfolding mostRecords ifEq
-  few-records =
-      let second = reading-parts 1 ob pf h .1 in
-      omega (arith, length-parts 1 pf (second .lengthOf) .2, header-parts pf (counts-parts ob pf (second .counts) .0) .1)
+  few-records = omega (arith, records-few 1 ob pf (reading-parts 1 ob pf h .1))
 
   walk-few : proofWalk (beside ob pf) (rootOf pf) .nodes ≤ countOf pf
   unfolding proofWalk

@@ -13,10 +13,8 @@ use Rattle.reader.specs.Words.{Reader}
 use Rattle.reader.specs.DownLaws.{Local, down-zero, down-step}
 use Rattle.reader.specs.Trees.{lower}
 use Rattle.reader.specs.TreeLaws.{below, lower-below}
-use Rattle.reader.specs.Answers.{answer}
-use Rattle.reader.specs.Walk as walk
 use Rattle.reader.specs.Walk.{walkNode, walkLinks}
-use Rattle.reader.specs.WalkLaws.{node-go, node-stop, link-zero, link-go, link-stop}
+use Rattle.reader.specs.WalkLaws.{node-zero, node-go, node-stop, link-zero, link-go, link-stop}
 use Rattle.tree_rules.specs.Order.{Node, nodeAt, order}
 use Rattle.tree_rules.specs.OrderLaws.{orderFrom, order-zero, order-node, order-end, order-link}
 use Rattle.tree_meaning.specs.Walked.{Visit, goOn, Visits, visitNode, visitLink, visitStep, noVisits, visits, visitFrom}
@@ -63,13 +61,9 @@ module _ {S : Type 0} (rd : Reader) (fault : S → ℕ → ℕ) (next : S → �
         Agrees (walkLinks rd fault next i n b st count) count (followed i n b st depth) (orderFrom rd i depth)
 
   -- record 0
-  walk-none : (st : S) (count : ℕ) → walkNode rd fault next 0 st count ≡ answer 13 2 0 count
-  unfolding walkNode walk.walks
-  walk-none st count = ap (λ (w : walk.Walks S). w .node st count) (down-zero (walk.noWalk rd fault next) (walk.walkStep rd fault next))
-
   no-node : (st : S) (count depth : ℕ) → Agrees (walkNode rd fault next 0 st count) count (visited 0 st depth) (order rd 0 depth)
   no-node st count depth =
-      rw (walk-none st count, ap (λ (w : Visits S). w .node st depth) visits-zero, order-zero rd depth)
+      rw (node-zero rd fault next st count, ap (λ (w : Visits S). w .node st depth) visits-zero, order-zero rd depth)
       (record { accepts = refl; counts = omega arith; rest = []; whole = refl; none = λ h. refl })
 
   no-link : (n b : ℕ) (st : S) (count depth : ℕ) → Agrees (walkLinks rd fault next 0 n b st count) count (followed 0 n b st depth) (orderFrom rd 0 depth)

@@ -12,6 +12,6 @@ print-answer-spec = tie.close (tie.spec
     (λ c. search needs)
     (λ c. search needs)
     -- write-answer-requires
-    (λ c κs. line-slice _ _ _ _ (c .before .before .put-answer .ensures))
+    (λ c κs. line-slice _ _ _ _ _ (c .before .before .put-answer .ensures))
     -- returns
     (λ c. search needs))
