@@ -173,31 +173,32 @@ static struct pair pair_of(const struct sample *s)
 /* One past the deepest derivation that is accepted, and the bytes of one so deep, or of a proof. */
 enum { TOO_DEEP = 8193, TOO_DEEP_BYTES = 32 * TOO_DEEP + 16 };
 
-/* Writes a derivation of e17's goal that is so many nodes deep: BR6 below BR2 nodes that keep nothing. Its length. */
-static size_t put_deep(uint8_t *bytes, uint32_t depth)
+/* Writes a branch of so many nodes to a second file of e17's obligation, each node but its leaf of that kind, with those parts and the node below it as its premise, and
+ * the header; records up to the leaf's are there. The file's length. */
+static size_t put_branch(uint8_t *bytes, uint32_t leaf, uint32_t depth, uint32_t kind, uint32_t parts)
 {
-    uint32_t root = 4;
-    put_record(bytes + 16, (words){68, 0, 0, 0});
-    for (; root < 2 * depth + 2; root += 2) {
+    uint32_t root = leaf;
+    for (; root < leaf + 2 * (depth - 1); root += 2) {
         put_record(bytes + 16 * (root - 2), (words){1, root, 0, 0});
-        put_record(bytes + 16 * (root - 1), (words){65, 0, root + 1, 0});
+        put_record(bytes + 16 * (root - 1), (words){kind, parts, root + 1, 0});
     }
     put_record(bytes, (words){1, root - 3, root, 3});
     return 16 * (root - 2);
 }
 
+/* Writes a derivation of e17's goal that is so many nodes deep: BR6 below BR2 nodes that keep nothing. Its length. */
+static size_t put_deep(uint8_t *bytes, uint32_t depth)
+{
+    put_record(bytes + 16, (words){68, 0, 0, 0});
+    return put_branch(bytes, 4, depth, 65, 0);
+}
+
 /* Writes a proof of e17's goal that is so many nodes deep: the rule for ⊥ below nodes that each take ⊥ from ¬¬⊥. Its length. */
 static inline size_t put_deep_proof(uint8_t *bytes, uint32_t depth)
 {
-    uint32_t root = 5;
     put_record(bytes + 16, (words){1, 3, 0, 0});
     put_record(bytes + 32, (words){32, 0, 0, 0});
-    for (; root < 2 * depth + 3; root += 2) {
-        put_record(bytes + 16 * (root - 2), (words){1, root, 0, 0});
-        put_record(bytes + 16 * (root - 1), (words){38, 4, root + 1, 0});
-    }
-    put_record(bytes, (words){1, root - 3, root, 3});
-    return 16 * (root - 2);
+    return put_branch(bytes, 5, depth, 38, 4);
 }
 
 #endif

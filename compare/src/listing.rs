@@ -1,6 +1,7 @@
 //! The program that lists a proof's nodes, run on files: what it writes must be the second implementation's listing.
 
 use crate::tally::{hex, MOST_SHOWN};
+use crate::threads::Counts;
 use second::listing;
 use std::fs;
 use std::path::{Path, PathBuf};
@@ -113,25 +114,6 @@ impl Listings {
         self.accepted + self.before_walk + self.in_walk
     }
 
-    pub fn too_many(&self) -> bool {
-        self.shown.len() >= MOST_SHOWN
-    }
-
-    fn add(&mut self, other: Listings) {
-        self.accepted += other.accepted;
-        self.before_walk += other.before_walk;
-        self.in_walk += other.in_walk;
-        self.most_lines = self.most_lines.max(other.most_lines);
-        self.differences += other.differences;
-        self.shown.extend(other.shown);
-    }
-
-    pub fn sum(list: Vec<Listings>) -> Listings {
-        let mut sum = Listings::default();
-        list.into_iter().for_each(|listings| sum.add(listings));
-        sum
-    }
-
     /// Prints the counts; panics if an output was wrong.
     pub fn report(&self, what: &str) {
         println!(
@@ -149,6 +131,21 @@ impl Listings {
             self.differences,
             self.shown.join("\n")
         );
+    }
+}
+
+impl Counts for Listings {
+    fn add(&mut self, other: Listings) {
+        self.accepted += other.accepted;
+        self.before_walk += other.before_walk;
+        self.in_walk += other.in_walk;
+        self.most_lines = self.most_lines.max(other.most_lines);
+        self.differences += other.differences;
+        self.shown.extend(other.shown);
+    }
+
+    fn too_many(&self) -> bool {
+        self.shown.len() >= MOST_SHOWN
     }
 }
 

@@ -1,5 +1,6 @@
 //! What a comparison counts and where it found a difference.
 
+use crate::threads::Counts;
 use crate::{desk, Asked};
 use second::Answer;
 use std::fmt::Write;
@@ -63,27 +64,6 @@ impl Tally {
         }
     }
 
-    pub fn too_many(&self) -> bool {
-        self.shown.len() >= MOST_SHOWN
-    }
-
-    pub fn add(&mut self, other: Tally) {
-        self.cases += other.cases;
-        self.differences += other.differences;
-        self.most_nodes = self.most_nodes.max(other.most_nodes);
-        self.large += other.large;
-        for (mine, theirs) in self.refusals.iter_mut().zip(other.refusals) {
-            mine.iter_mut().zip(theirs).for_each(|(m, t)| *m += t);
-        }
-        self.shown.extend(other.shown);
-    }
-
-    pub fn sum(list: Vec<Tally>) -> Tally {
-        let mut sum = Tally::default();
-        list.into_iter().for_each(|tally| sum.add(tally));
-        sum
-    }
-
     /// Prints the counts; panics if there was a difference.
     pub fn report(&self, what: &str) {
         println!("{what}: {} cases, {}", self.cases, self.counts());
@@ -105,6 +85,23 @@ impl Tally {
             let _ = write!(text, ", {refusal}: {}+{}", files[1], files[2]);
         }
         text
+    }
+}
+
+impl Counts for Tally {
+    fn add(&mut self, other: Tally) {
+        self.cases += other.cases;
+        self.differences += other.differences;
+        self.most_nodes = self.most_nodes.max(other.most_nodes);
+        self.large += other.large;
+        for (mine, theirs) in self.refusals.iter_mut().zip(other.refusals) {
+            mine.iter_mut().zip(theirs).for_each(|(m, t)| *m += t);
+        }
+        self.shown.extend(other.shown);
+    }
+
+    fn too_many(&self) -> bool {
+        self.shown.len() >= MOST_SHOWN
     }
 }
 

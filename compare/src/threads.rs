@@ -4,6 +4,37 @@ use std::panic::resume_unwind;
 use std::thread::{scope, Builder};
 
 pub const STACK_BYTES: usize = 8 << 20;
+/// The threads that a comparison is shared out over.
+const THREADS: u64 = 2;
+
+/// What a thread counts of its share of a comparison.
+pub trait Counts: Default + Send {
+    fn add(&mut self, other: Self);
+
+    /// Were as many faults found as are shown?
+    fn too_many(&self) -> bool;
+}
+
+/// Shares the numbers below `count` out over the threads, each with tools of its own, up to the first few faults.
+pub fn share_out<C: Counts, T>(
+    count: u64,
+    tools: impl Fn() -> T + Sync,
+    try_one: impl Fn(&mut C, &T, u64) + Sync,
+) -> C {
+    let parts = in_threads(THREADS, |thread| {
+        let tools = tools();
+        let mut part = C::default();
+        let mut number = thread;
+        while number < count && !part.too_many() {
+            try_one(&mut part, &tools, number);
+            number += THREADS;
+        }
+        part
+    });
+    let mut sum = C::default();
+    parts.into_iter().for_each(|part| sum.add(part));
+    sum
+}
 
 /// Runs the work once in each thread, given the thread's number.
 pub fn in_threads<T: Send>(count: u64, work: impl Fn(u64) -> T + Sync) -> Vec<T> {

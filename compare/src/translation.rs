@@ -3,6 +3,7 @@
 
 use crate::desk;
 use crate::tally::{hex, LARGE, MOST_SHOWN};
+use crate::threads::Counts;
 use second::kinds::is_proof_rule;
 use second::reader::Second;
 use second::words::{records, RECORD_BYTES};
@@ -198,31 +199,6 @@ impl Trials {
         }
     }
 
-    pub fn too_many(&self) -> bool {
-        self.shown.len() >= MOST_SHOWN
-    }
-
-    fn add(&mut self, other: Trials) {
-        self.accepted += other.accepted;
-        self.refused += other.refused;
-        self.written += other.written;
-        self.short += other.short;
-        self.faults += other.faults;
-        self.large += other.large;
-        self.most_nodes = self.most_nodes.max(other.most_nodes);
-        self.longest = self.longest.max(other.longest);
-        for (mine, theirs) in self.rules.iter_mut().zip(other.rules) {
-            *mine += theirs;
-        }
-        self.shown.extend(other.shown);
-    }
-
-    pub fn sum(list: Vec<Trials>) -> Trials {
-        let mut sum = Trials::default();
-        list.into_iter().for_each(|trials| sum.add(trials));
-        sum
-    }
-
     /// Prints the counts; panics if a call was wrong.
     pub fn report(&self, what: &str) {
         println!(
@@ -247,5 +223,26 @@ impl Trials {
             self.faults,
             self.shown.join("\n")
         );
+    }
+}
+
+impl Counts for Trials {
+    fn add(&mut self, other: Trials) {
+        self.accepted += other.accepted;
+        self.refused += other.refused;
+        self.written += other.written;
+        self.short += other.short;
+        self.faults += other.faults;
+        self.large += other.large;
+        self.most_nodes = self.most_nodes.max(other.most_nodes);
+        self.longest = self.longest.max(other.longest);
+        for (mine, theirs) in self.rules.iter_mut().zip(other.rules) {
+            *mine += theirs;
+        }
+        self.shown.extend(other.shown);
+    }
+
+    fn too_many(&self) -> bool {
+        self.shown.len() >= MOST_SHOWN
     }
 }

@@ -3,7 +3,7 @@
 use compare::bytes::{case, raw};
 use compare::desk;
 use compare::tally::Tally;
-use compare::threads::{in_thread, in_threads};
+use compare::threads::{in_thread, share_out};
 use compare::{generated_cases, Asked};
 use second::generate::large_cases;
 use second::generate::limits::limits;
@@ -11,7 +11,6 @@ use second::reader::Second;
 use second::vectors::{vectors, FILES};
 use second::Answer;
 
-const THREADS: u64 = 2;
 const CASES: u64 = 60_000;
 const CHECKED_CASES: u64 = 100_000;
 const RAW_CASES: u64 = 30_000;
@@ -68,7 +67,7 @@ fn edges() {
     tally.report("edges, each against both answers");
 }
 
-/// Every question, the numbers shared out over the threads, up to the first few differences.
+/// Every question, with the numbers below its count, up to the first few differences.
 fn compare_all(
     what: &str,
     count: impl Fn(Asked) -> u64,
@@ -77,16 +76,8 @@ fn compare_all(
     let mut reports = Vec::new();
     for asked in Asked::ALL {
         let count = count(asked);
-        let tallies = in_threads(THREADS, |thread| {
-            let mut tally = Tally::default();
-            let mut seed = thread;
-            while seed < count && !tally.too_many() {
-                compare(&mut tally, asked, seed);
-                seed += THREADS;
-            }
-            tally
-        });
-        reports.push((format!("{what} {asked:?}"), Tally::sum(tallies)));
+        let tally = share_out(count, || (), |tally, (), seed| compare(tally, asked, seed));
+        reports.push((format!("{what} {asked:?}"), tally));
     }
     reports.iter().for_each(|(what, tally)| tally.report(what));
 }
@@ -103,17 +94,16 @@ fn generated() {
 /// Accepted files of hundreds of nodes, and near misses of each.
 fn large(asked: Asked, what: &str) {
     let count = LARGE_CASES.min(cases(asked));
-    let tallies = in_threads(THREADS, |thread| {
-        let mut tally = Tally::default();
-        for seed in (thread..count).step_by(THREADS as usize) {
+    let tally = share_out(
+        count,
+        || (),
+        |tally: &mut Tally, (), seed| {
             for case in large_cases(asked.kind(), seed) {
                 let label = format!("seed {seed} {}", case.label);
                 tally.compare(&label, asked, &case.obligation, &case.second);
             }
-        }
-        tally
-    });
-    let tally = Tally::sum(tallies);
+        },
+    );
     tally.report(what);
     assert!(tally.large > count, "{} of hundreds of nodes", tally.large);
 }

@@ -6,33 +6,22 @@ use compare::listing::{Listings, Program};
 use compare::proofs::{limit_proofs, shape_proofs, vector_proofs, Files};
 use compare::shapes::edges::{edges, past_members};
 use compare::shapes::walks::walks;
-use compare::threads::in_threads;
+use compare::threads::share_out;
 use second::generate::large_cases;
 use second::reader::Second;
 use second::vectors::{listings, LISTINGS};
 
-const THREADS: u64 = 2;
 const CASES: u64 = 20_000;
 /// Each makes some seven pairs.
 const LARGE_CASES: u64 = 48;
 
-/// The numbers below `count` shared out over the threads, up to the first few differences.
+/// The numbers below `count`, up to the first few differences.
 fn compare_all(
     what: &str,
     count: u64,
     compare: impl Fn(&mut Listings, &Program, u64) + Sync,
 ) -> Listings {
-    let list = in_threads(THREADS, |thread| {
-        let program = Program::in_own_folder();
-        let mut listings = Listings::default();
-        let mut number = thread;
-        while number < count && !listings.too_many() {
-            compare(&mut listings, &program, number);
-            number += THREADS;
-        }
-        listings
-    });
-    let listings = Listings::sum(list);
+    let listings = share_out(count, Program::in_own_folder, compare);
     listings.report(what);
     listings
 }

@@ -7,30 +7,20 @@ use compare::shapes::edges::{edges, past_members};
 use compare::shapes::walks::walks;
 use compare::shapes::Shape;
 use compare::tally::Tally;
-use compare::threads::{in_thread, in_threads};
+use compare::threads::{in_thread, share_out};
 use compare::translation::{length, room, translated, Pair, Trials, MOST_ROOM};
 use compare::{generated_cases, Asked};
 use second::check_proof;
 use second::generate::large_cases;
 use second::reader::{read, Item, Second};
 
-const THREADS: u64 = 2;
 const CASES: u64 = 50_000;
 const LARGE_CASES: u64 = 400;
 const RAW_CASES: u64 = 20_000;
 
-/// The numbers below `count` shared out over the threads, up to the first few faults.
+/// The numbers below `count`, up to the first few faults.
 fn trials(what: &str, count: u64, try_one: impl Fn(&mut Trials, u64) + Sync) -> Trials {
-    let list = in_threads(THREADS, |thread| {
-        let mut trials = Trials::default();
-        let mut number = thread;
-        while number < count && !trials.too_many() {
-            try_one(&mut trials, number);
-            number += THREADS;
-        }
-        trials
-    });
-    let trials = Trials::sum(list);
+    let trials = share_out(count, || (), |trials, (), number| try_one(trials, number));
     trials.report(what);
     trials
 }
