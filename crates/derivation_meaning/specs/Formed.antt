@@ -150,6 +150,10 @@ module _ (mode : ℕ) (rd : Reader) (head : rd 0 0 ≡ 1) (m : ℕ) (all : (j : 
         let f = function-at 1 (Parts.application-first mode rd i sound e) in
         rw (Parts.application-tree mode rd i sound pos e, f .1) (Term.application (f .0) (arguments-at 3 (Parts.application-third mode rd i sound e)))
 
+    choice-formed : rd i 0 ≡ 23 → Term rd ⌊ tree rd i ⌋
+    unfolding ⌊_⌋ bare untyped isType role ifEq ifLt ifTrue
+    choice-formed e = rw (Parts.choice-tree mode rd i sound pos e) (Term.choice (term-at 1 (Parts.choice-first mode rd i sound e)))
+
     -- formulas, by their kinds
     false-formed : rd i 0 ≡ 14 → Formula rd ⌊ tree rd i ⌋
     unfolding ⌊_⌋ bare untyped isType role ifEq ifLt ifTrue
@@ -198,7 +202,7 @@ module _ (mode : ℕ) (rd : Reader) (head : rd 0 0 ≡ 1) (m : ℕ) (all : (j : 
     term-formed : class (rd i 0) ≡ 4 → Term rd ⌊ tree rd i ⌋
     term-formed h =
         let k : ℕ = rd i 0 in
-        let range = term-class k h in
+        ⊎-elim (λ range.
         let high : k ≤ 13 = range .1 in
         rise k 7 (range .0) constant-formed (λ a.
         rise k 8 a (λ e. absurd (range .2 e)) (λ a.
@@ -206,7 +210,8 @@ module _ (mode : ℕ) (rd : Reader) (head : rd 0 0 ≡ 1) (m : ℕ) (all : (j : 
         rise k 10 a pair-formed (λ a.
         rise k 11 a product-formed (λ a.
         rise k 12 a powerset-formed (λ a.
-        rise k 13 a application-formed (λ a. absurd (omega arith))))))))
+        rise k 13 a application-formed (λ a. absurd (omega arith)))))))))
+        choice-formed (term-class k h)
 
     formula-formed : class (rd i 0) ≡ 5 → Formula rd ⌊ tree rd i ⌋
     formula-formed h =

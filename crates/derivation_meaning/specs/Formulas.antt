@@ -7,13 +7,14 @@ use Rattle.reader.specs.Notions.{IsTerm, IsFormula}
 use Rattle.derivation_rules.specs.Erase.{bareTree, constantᵇ, ∀ᵇ}
 
 mutual
-  -- E: constants, bound variables, pairs, products, powersets, applications
+  -- E: constants, bound variables, pairs, products, powersets, applications, choices
   pub data Term (rd : Reader) : Tree → Type 0 where
     constant : {c : ℕ} → rd c 0 ≡ 7 → Term rd (constantᵇ c)
     variable : {i : ℕ} → Term rd (node 9 i leaf leaf leaf)
     pair : {x y : Tree} → Term rd x → Term rd y → Term rd (node 10 0 x y leaf)
     product : {x y : Tree} → Term rd x → Term rd y → Term rd (node 11 0 x y leaf)
     powerset : {x : Tree} → Term rd x → Term rd (node 12 0 x leaf leaf)
+    choice : {s : Tree} → Term rd s → Term rd (node 23 0 s leaf leaf)
     application : {f : ℕ} {x : Tree} → rd f 0 ≡ 8 → Arguments rd x → Term rd (node 13 0 (node 8 f leaf leaf leaf) leaf x)
 
   -- the chain of arguments of an application

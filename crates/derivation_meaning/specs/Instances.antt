@@ -91,6 +91,7 @@ mutual
   term-typeless (Term.pair p q) = typeless-node refl (term-typeless p) (term-typeless q) TypesBelow.none
   term-typeless (Term.product p q) = typeless-node refl (term-typeless p) (term-typeless q) TypesBelow.none
   term-typeless (Term.powerset p) = typeless-node refl (term-typeless p) TypesBelow.none TypesBelow.none
+  term-typeless (Term.choice p) = typeless-node refl (term-typeless p) TypesBelow.none TypesBelow.none
   term-typeless (Term.application e p) =
       typeless-node refl
       (typeless-node refl TypesBelow.none TypesBelow.none TypesBelow.none) TypesBelow.none (arguments-typeless p)

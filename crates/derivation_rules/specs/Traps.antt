@@ -70,6 +70,12 @@ symmetry =
     r 1 10 10 9 ∷
     r 2 83 0 0 ∷ r 3 1 0 0 ∷ r 2 99 0 0 ∷ r 7 2 3 0 ∷ r 2 100 0 0 ∷ r 7 2 5 0 ∷ r 20 4 6 0 ∷ r 20 6 4 0 ∷ r 18 8 0 0 ∷ r 1 7 0 0 ∷ []
 
+-- hypothesis and goal choice(s) ∈ s
+abbrev choiceInSet : List Words
+choiceInSet =
+    r 1 9 9 8 ∷
+    r 2 83 0 0 ∷ r 3 1 0 0 ∷ r 4 2 0 0 ∷ r 2 115 0 0 ∷ r 7 3 4 0 ∷ r 23 5 2 0 ∷ r 21 6 5 0 ∷ r 18 7 0 0 ∷ r 1 7 0 0 ∷ []
+
 -- all seventeen rules in one derivation: sample e1 of tests/samples, of the goal ∀x·x=x
 abbrev everyRule : List Words
 everyRule =
@@ -114,6 +120,9 @@ traps =
     -- "records compare without" types; "kind 22 as its formula"
     trap twoTypes (r 1 1 13 12 ∷ r 66 0 0 0 ∷ []) (answer 0 0 0 1) ∷
     trap forAllTypes (r 1 1 13 12 ∷ r 66 0 0 0 ∷ []) (answer 0 0 0 1) ∷
+    -- and of a choice the own type: the cut formula is the hypothesis
+    trap choiceInSet (r 1 8 17 9 ∷ r 23 5 3 0 ∷ r 21 10 5 0 ∷ r 66 0 0 0 ∷ r 66 0 0 0 ∷ r 1 13 0 0 ∷ r 1 12 0 14 ∷ r 1 11 0 0 ∷ r 67 16 15 0 ∷ [])
+    (answer 0 0 0 3) ∷
     -- R5 adds ¬Q: its second premise has ¬⊥ to derive
     trap falseFromFalse
     (r 1 6 9 3 ∷ r 66 0 0 0 ∷ r 66 0 0 0 ∷ r 1 5 0 0 ∷ r 1 4 0 6 ∷ r 1 1 0 0 ∷ r 75 8 7 0 ∷ [])

@@ -3,7 +3,7 @@ use Prim.Native.Nat.{ℕ, zero, suc, _+_, _<_, _≤_}
 use mathlib.Core.Path.{_≡_, refl, sym, ap, subst, _∙_}
 use mathlib.Core.List.{List, _∷_, map}
 use mathlib.Core.Bool.{Bool, true, false}
-use mathlib.Core.Logic.{_⊎_, inl, inr}
+use mathlib.Core.Logic.{_⊎_, inl, inr, ⊎-elim}
 use lib.Dec.{eqb, ltb}
 use native.Mathlib.Omega.{arith}
 use borrow.Author.Tests.{eqb-true, eqb-false, ltb-true, ltb-false}
@@ -40,6 +40,7 @@ type-carried (HasType.pair p q) = refl
 type-carried (HasType.product p q) = refl
 type-carried (HasType.powerset p) = refl
 type-carried (HasType.application f ts x e) = first-type ts
+type-carried (HasType.choice p) = refl
 
 carried : {rd : Reader} {t u τ : Tree} → t ≡ u → HasType rd u τ → HasType rd t (typeOf t)
 carried {rd = rd} {t = t} {u = u} {τ = τ} e h =
@@ -60,6 +61,7 @@ type-over (HasType.pair p q) = TypeOver.pair (type-over p) (type-over q)
 type-over (HasType.product p q) = TypeOver.set (TypeOver.pair (set-inside (type-over p)) (set-inside (type-over q)))
 type-over (HasType.powerset p) = TypeOver.set (type-over p)
 type-over (HasType.application f ts x e) = own-type ts
+type-over (HasType.choice p) = set-inside (type-over p)
 
 -- What is well typed has the types that paper 01 asks.
 
@@ -72,6 +74,9 @@ product-types (HasType.product {τ = τ} {υ = υ} p q) = (τ, υ, type-carried 
 
 pub powerset-types : {rd : Reader} {x own τ : Tree} → HasType rd (node 12 0 x own leaf) τ → (υ : Tree) × (typeOf x ≡ setᵗ υ) × (own ≡ setᵗ (setᵗ υ))
 powerset-types (HasType.powerset {τ = τ} p) = (τ, type-carried p, refl)
+
+pub choice-types : {rd : Reader} {s own τ : Tree} → HasType rd (node 23 0 s own leaf) τ → typeOf s ≡ setᵗ own
+choice-types (HasType.choice p) = type-carried p
 
 pub equation-types : {rd : Reader} {t u : Tree} → TypedFormula rd (t =ᵗ u) → typeOf t ≡ typeOf u
 equation-types (TypedFormula.equation p q) = type-carried p ∙ sym (type-carried q)
@@ -119,6 +124,7 @@ symbol-inside (HasType.pair p q) (IndicesBelow.inside own i j l) = symbol-inside
 symbol-inside (HasType.product p q) (IndicesBelow.inside own i j l) = symbol-inside p i
 symbol-inside (HasType.powerset p) (IndicesBelow.inside own i j l) = symbol-inside p i
 symbol-inside (HasType.application {f = f} k ts x e) i = (f, inr (k .kind))
+symbol-inside (HasType.choice p) (IndicesBelow.inside own i j l) = symbol-inside p i
 
 -- Records.
 
@@ -294,10 +300,16 @@ module _ (mode : ℕ) (rd : Reader) (head : rd 0 0 ≡ 1) (m : ℕ) (all : (j : 
         carried (shape ∙ ap (λ (t : Tree). node 13 0 t (tree rd (rd i 2)) (tree rd (rd i 3))) (f .0))
         (HasType.application function types (arguments-at 3 (Parts.application-third mode rd i sound e)) (a .fits))
 
+    choice-typed : rd i 0 ≡ 23 → HasType rd (tree rd i) (typeOf (tree rd i))
+    choice-typed e =
+        let shape = Parts.choice-tree mode rd i sound pos e in
+        let first = subst (HasType rd (tree rd (rd i 1))) (own .choice _ _ shape) (term-at 1 (Parts.choice-first mode rd i sound e)) in
+        carried shape (HasType.choice first)
+
     term-typed : class (rd i 0) ≡ 4 → HasType rd (tree rd i) (typeOf (tree rd i))
     term-typed h =
         let k : ℕ = rd i 0 in
-        let range = term-class k h in
+        ⊎-elim (λ range.
         let high : k ≤ 13 = range .1 in
         rise k 7 (range .0) constant-typed (λ a.
         rise k 8 a (λ e. absurd (range .2 e)) (λ a.
@@ -305,7 +317,8 @@ module _ (mode : ℕ) (rd : Reader) (head : rd 0 0 ≡ 1) (m : ℕ) (all : (j : 
         rise k 10 a pair-typed (λ a.
         rise k 11 a product-typed (λ a.
         rise k 12 a powerset-typed (λ a.
-        rise k 13 a application-typed (λ a. absurd (omega arith))))))))
+        rise k 13 a application-typed (λ a. absurd (omega arith)))))))))
+        choice-typed (term-class k h)
 
     -- formulas, by their kinds
     false-typed : rd i 0 ≡ 14 → TypedFormula rd (tree rd i)

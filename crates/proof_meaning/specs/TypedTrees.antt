@@ -1,5 +1,5 @@
--- The typed language of document 000: types, terms of a type, formulas and polymorphic formulas, over the symbols of the files. Trees may be open: a bound
--- variable carries its type, and closedness is said apart.
+-- The typed language of document 000, with its `choice` (paper 02, U3): types, terms of a type, formulas and polymorphic formulas, over the symbols of the
+-- files. Trees may be open: a bound variable carries its type, and closedness is said apart.
 use Prim.Native.Nat.{ℕ, _≤_}
 use mathlib.Core.Path.{_≡_}
 use mathlib.Core.List.{List, [], _∷_, map}
@@ -38,7 +38,7 @@ pub record IsFunction (rd : Reader) (f m : ℕ) (σs : List Tree) : Type 0 where
   pub variables : Every (TypesBelow m) σs
 
 mutual
-  -- t is a term of type τ, by paper 01's sentences on typing
+  -- t is a term of type τ, by the sentences on typing of paper 01 and of paper 02, U3
   pub data HasType (rd : Reader) : Tree → Tree → Type 0 where
     -- "A constant is itself a term."
     constant : {c : ℕ} {τ : Tree} → IsConstant rd c τ → HasType rd (constantᵗ c τ) τ
@@ -56,6 +56,8 @@ mutual
     application : {f : ℕ} {ts x own : Tree} {αs τs σs : List Tree} →
         IsFunction rd f (length αs) σs → Types rd ts (own ∷ αs) → Arguments rd x τs → own ∷ τs ≡ map (instance αs) σs →
         HasType rd (node 13 0 (node 8 f leaf leaf leaf) ts x) own
+    -- "s is of type Set(τ)", own type τ
+    choice : {s τ : Tree} → HasType rd s (setᵗ τ) → HasType rd (node 23 0 s τ leaf) τ
 
   -- The "chain of arguments" of an application, as a tree, with the types of the arguments.
   pub data Arguments (rd : Reader) : Tree → List Tree → Type 0 where

@@ -1,4 +1,4 @@
--- Traps that the paper names: a smallest pair of files for each, and one theorem over their table.
+-- Traps that the paper names, and those of `choice` (paper 02, U3): a smallest pair of files for each, and one theorem over their table.
 use mathlib.Core.Path.{_≡_, refl}
 use mathlib.Core.List.{List, [], _∷_, map}
 use Rattle.reader.specs.declared.Answer.{Answer}
@@ -30,6 +30,38 @@ twoBinders =
     r 1 10 10 9 ∷
     r 2 83 0 0 ∷ r 3 1 0 0 ∷ r 2 99 0 0 ∷ r 7 2 3 0 ∷ r 9 0 2 0 ∷ r 20 5 5 0 ∷ r 19 2 6 0 ∷ r 19 2 7 0 ∷ r 18 8 0 0 ∷ r 1 8 0 0 ∷ []
 
+-- hypotheses SET5, "∃x·(x ∈ s) ⇒ choice(s) ∈ s" for all types, and a ∈ s; goal choice(s) ∈ s: sample c1 of tests/samples
+abbrev choiceAxiom : List Words
+choiceAxiom =
+    r 1 27 27 25 ∷
+    r 2 83 0 0 ∷ r 3 1 0 0 ∷ r 4 2 0 0 ∷ r 2 97 0 0 ∷ r 7 2 4 0 ∷ r 2 115 0 0 ∷ r 7 3 6 0 ∷ r 23 7 2 0 ∷
+    r 6 0 0 0 ∷ r 4 9 0 0 ∷ r 9 0 9 0 ∷ r 9 1 10 0 ∷ r 9 0 10 0 ∷ r 21 11 12 0 ∷ r 18 14 0 0 ∷ r 19 9 15 0 ∷
+    r 18 16 0 0 ∷ r 23 13 9 0 ∷ r 21 18 13 0 ∷ r 17 17 19 0 ∷ r 19 10 20 0 ∷ r 22 1 21 0 ∷ r 21 5 7 0 ∷ r 21 8 7 0 ∷
+    r 18 24 0 0 ∷ r 1 23 0 0 ∷ r 1 22 0 26 ∷ []
+
+-- its proof: SET5 at the type S by 45, at s by 44, and its premise ∃x·(x ∈ s) from a ∈ s
+abbrev byChoiceAxiom : List Words
+byChoiceAxiom =
+    r 1 44 71 27 ∷
+    r 9 0 2 0 ∷ r 9 1 3 0 ∷ r 9 0 3 0 ∷ r 21 28 29 0 ∷ r 18 31 0 0 ∷ r 19 2 32 0 ∷ r 18 33 0 0 ∷ r 23 30 2 0 ∷
+    r 21 35 30 0 ∷ r 17 34 36 0 ∷ r 19 3 37 0 ∷ r 21 28 7 0 ∷ r 18 39 0 0 ∷ r 19 2 40 0 ∷ r 18 41 0 0 ∷ r 17 42 24 0 ∷
+    r 18 23 0 0 ∷ r 1 23 0 0 ∷ r 34 45 0 0 ∷ r 1 44 0 0 ∷ r 1 5 0 47 ∷ r 1 41 0 48 ∷ r 1 46 0 0 ∷ r 44 49 50 0 ∷
+    r 18 42 0 0 ∷ r 1 52 0 0 ∷ r 1 51 0 0 ∷ r 38 53 54 0 ∷ r 1 24 0 0 ∷ r 34 56 0 0 ∷ r 1 43 0 0 ∷ r 1 57 0 0 ∷
+    r 1 55 0 59 ∷ r 41 58 60 0 ∷ r 1 43 0 0 ∷ r 1 7 0 62 ∷ r 1 38 0 63 ∷ r 1 61 0 0 ∷ r 44 64 65 0 ∷ r 1 2 0 0 ∷
+    r 1 38 0 67 ∷ r 1 22 0 68 ∷ r 1 66 0 0 ∷ r 45 69 70 0 ∷ []
+
+-- hypothesis choice(s) = choice(s), goal ∀x·x=x with x of the type of s
+abbrev constantInChoice : List Words
+constantInChoice =
+    r 1 12 12 11 ∷
+    r 2 83 0 0 ∷ r 3 1 0 0 ∷ r 4 2 0 0 ∷ r 2 115 0 0 ∷ r 7 3 4 0 ∷ r 23 5 2 0 ∷ r 20 6 6 0 ∷
+    r 9 0 3 0 ∷ r 20 8 8 0 ∷ r 19 3 9 0 ∷ r 18 10 0 0 ∷ r 1 7 0 0 ∷ []
+
+-- goal ⊥, and a record made of s of type Set(S)
+abbrev besideFalse : Words → List Words
+besideFalse made =
+    r 1 9 0 9 ∷ r 2 83 0 0 ∷ r 3 1 0 0 ∷ r 4 2 0 0 ∷ r 4 3 0 0 ∷ r 2 115 0 0 ∷ r 7 3 5 0 ∷ made ∷ r 14 0 0 0 ∷ r 18 8 0 0 ∷ []
+
 abbrev pub traps : List Case
 traps =
     -- "freshness looked up in the newest formulas only": c is in the hypothesis
@@ -51,7 +83,24 @@ traps =
     -- "equality by record number": the hypothesis, stored again
     trap twoBinders
     (r 1 6 16 10 ∷ r 9 0 2 0 ∷ r 20 5 11 0 ∷ r 19 2 12 0 ∷ r 19 2 13 0 ∷ r 1 14 0 0 ∷ r 34 15 0 0 ∷ [])
-    (answer 0 0 0 1) ∷ []
+    (answer 0 0 0 1) ∷
+    -- SET5 "as a hypothesis like any other"
+    trap choiceAxiom byChoiceAxiom (answer 0 0 0 7) ∷
+    -- "freshness ... take it in": s is in choice(s)
+    trap constantInChoice
+    (r 1 9 21 12 ∷
+    r 20 5 5 0 ∷ r 18 13 0 0 ∷ r 1 14 0 0 ∷ r 35 15 0 0 ∷ r 1 13 0 0 ∷ r 1 5 0 17 ∷ r 1 11 0 18 ∷ r 1 16 0 0 ∷ r 43 19 20 0 ∷ [])
+    (answer 16 2 21 1) ∷
+    -- "words term s and own type τ, where s is of type Set(τ)"
+    trap (besideFalse (r 23 6 2 0)) [] (answer 1 2 0 0) ∷
+    trap (besideFalse (r 23 6 3 0)) [] (answer 10 1 7 0) ∷
+    -- not the powerset's own type
+    trap (besideFalse (r 23 6 4 0)) [] (answer 10 1 7 0) ∷
+    trap (besideFalse (r 23 2 6 0)) [] (answer 5 1 7 0) ∷
+    -- "Words not listed are 0."
+    trap (besideFalse (r 23 6 2 1)) [] (answer 4 1 7 0) ∷
+    -- 24 is no kind
+    trap (besideFalse (r 24 6 2 0)) [] (answer 3 1 7 0) ∷ []
 
 pub traps-hold : answersOf proofAnswer traps ≡ map gives traps
 unfolding openProofs

@@ -23,7 +23,7 @@ ruleRole w = roleIn w ruleNode
 
 module _ (k : ℕ) where
   -- a kind past the table, and a rule node's
-  row-past : 23 ≤ k → k < 32 → noLayout ≡ layout k
+  row-past : 24 ≤ k → k < 32 → noLayout ≡ layout k
   unfolding ifLt
   row-past p h = simp (ifLt, lt-ltb k 32 h) (sym (List·getD-eq-default records noLayout p))
 
@@ -32,7 +32,7 @@ module _ (k : ℕ) where
   row-rule h = simp (ifLt, le-ltb k 32 h)
 
   -- none of the table's
-  pub row-none : k < 32 → ((k ≡ 0 → ⊥) → 23 ≤ k) → noLayout ≡ layout k
+  pub row-none : k < 32 → ((k ≡ 0 → ⊥) → 24 ≤ k) → noLayout ≡ layout k
   unfolding ifLt
   row-none h p = go (eqb k 0) refl
     where
@@ -41,7 +41,7 @@ module _ (k : ℕ) where
       go false e = row-past (p (eqb-false k 0 e)) h
 
   -- only the kinds of the table have a class
-  pub class-none : 23 ≤ k → 0 ≡ class k
+  pub class-none : 24 ≤ k → 0 ≡ class k
   unfolding class ifLt
   class-none p = go (ltb k 32) refl
     where

@@ -35,6 +35,7 @@ pub record Kinds : Type 0 where
   pub equal : ℕ
   pub member : ℕ
   pub forAllTypes : ℕ
+  pub choice : ℕ
 
 abbrev pub kinds : Kinds
 kinds = record {
@@ -60,6 +61,7 @@ kinds = record {
   equal = 20;
   member = 21;
   forAllTypes = 22;
+  choice = 23;
 }
 
 -- Classes.
@@ -198,7 +200,8 @@ records =
     layoutOf formulaᶜ typeʳ formulaʳ nothingʳ ∷  -- 19 ∀
     layoutOf formulaᶜ termʳ termʳ nothingʳ ∷  -- 20 =
     layoutOf formulaᶜ termʳ termʳ nothingʳ ∷  -- 21 ∈
-    layoutOf forAllTypesᶜ from1to4ʳ formulaʳ nothingʳ ∷ []  -- 22 for all types
+    layoutOf forAllTypesᶜ from1to4ʳ formulaʳ nothingʳ ∷  -- 22 for all types
+    layoutOf termᶜ termʳ typeʳ nothingʳ ∷ []  -- 23 choice (paper 02, U3)
 
 -- 32–46, 64–80 rule node: chain of parts, chain of premises
 abbrev pub ruleNode : Layout
@@ -230,9 +233,9 @@ roleAt rd i w = role (rd i 0) w
 unfoldable pub isRule : ℕ → ℕ → Bool
 isRule mode k = ifEq mode (modes .proof) (between 32 46 k) (ifEq mode (modes .derivation) (between 64 80 k) false)
 
--- the kinds of a file: 1 to 22, and its rules
+-- the kinds of a file: 1 to 23, and its rules
 unfoldable pub isKind : ℕ → ℕ → Bool
-isKind mode k = ifLt k 23 (ltb 0 k) (isRule mode k)
+isKind mode k = ifLt k 24 (ltb 0 k) (isRule mode k)
 
 -- a number: 0 to 3, 0 to 4, 0 to 63 or 1 to 4
 unfoldable pub isNumber : ℕ → Bool

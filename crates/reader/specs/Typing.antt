@@ -18,7 +18,8 @@ typeOf (node k a x y z) =
     ifEq k (kinds .constant) x
     (ifEq k (kinds .boundVariable) y
     (ifEq k (kinds .pair) z
-    (ifEq k (kinds .product) z (ifEq k (kinds .powerset) y (ifEq k (kinds .application) (firstOf y) leaf)))))
+    (ifEq k (kinds .product) z
+    (ifEq k (kinds .powerset) y (ifEq k (kinds .application) (firstOf y) (ifEq k (kinds .choice) y leaf))))))
 
 -- the trees of two lists are equal, one by one
 unfoldable pub sameAll : List Tree → List Tree → Bool
@@ -41,6 +42,10 @@ productTyped t =
 -- "a powerset of Set(τ) is Set(Set(τ))"
 unfoldable pub powersetTyped : Tree → Bool
 powersetTyped t = both (eqb (kindOf (typeOf (firstOf t))) (kinds .setType)) (same (secondOf t) (setᵗ (typeOf (firstOf t))))
+
+-- "s is of type Set(τ)", the choice's own type being τ (paper 02, U3)
+unfoldable pub choiceTyped : Tree → Bool
+choiceTyped t = same (typeOf (firstOf t)) (setᵗ (secondOf t))
 
 -- "= needs equal types"
 unfoldable pub equalTyped : Tree → Bool
@@ -85,4 +90,5 @@ isTyped rd i =
     (ifEq (rd i 0) (kinds .application) (applicationTyped rd i)
     (ifEq (rd i 0) (kinds .forAll) (forAllTyped (tree rd i))
     (ifEq (rd i 0) (kinds .equal) (equalTyped (tree rd i))
-    (ifEq (rd i 0) (kinds .member) (memberTyped (tree rd i)) true))))))))
+    (ifEq (rd i 0) (kinds .member) (memberTyped (tree rd i))
+    (ifEq (rd i 0) (kinds .choice) (choiceTyped (tree rd i)) true)))))))))

@@ -34,6 +34,7 @@ fn row_of(k: usize) -> u32
         20 => 0x05_0d_0d_00, // =: term, term
         21 => 0x05_0d_0d_00, // ∈: term, term
         22 => 0x07_05_0e_00, // for all types: 1 to 4, formula
+        23 => 0x04_0d_0c_00, // choice: term, type
         _ => if 32 <= k { 0x00_08_08_00 } else { 0 }, // rule node: chain of parts, chain of premises
     }
 }
@@ -99,7 +100,7 @@ pub fn is_rule(mode: u8, k: usize) -> bool
 pub fn is_kind(mode: u8, k: usize) -> bool
     ensures { λ r. ⌜ r ≡ isKind mode k ⌝ }
 {
-    if k < 23 {
+    if k < 24 {
         return 0 < k;
     }
     is_rule(mode, k)

@@ -83,19 +83,19 @@ pub no-rule : (k : ℕ) → isRule 0 k ≡ false
 unfolding isRule ifEq
 no-rule k = refl
 
--- a kind that is no rule is 1 to 22
-pub kind-or-rule : (mode k : ℕ) → isKind mode k ≡ true → isRule mode k ≡ false → (1 ≤ k) × (k ≤ 22)
+-- a kind that is no rule is 1 to 23
+pub kind-or-rule : (mode k : ℕ) → isKind mode k ≡ true → isRule mode k ≡ false → (1 ≤ k) × (k ≤ 23)
 unfolding isKind ifLt
-kind-or-rule mode k h r = go (ltb k 23) refl h
+kind-or-rule mode k h r = go (ltb k 24) refl h
   where
-    go : (b : Bool) → ltb k 23 ≡ b → _≡_ {A = Bool} (elim b [ true ↦ ltb 0 k | false ↦ isRule mode k ]) true → (1 ≤ k) × (k ≤ 22)
-    go true e h = let low : 0 < k = ltb-true 0 k h in let high : k < 23 = ltb-true k 23 e in ((omega arith), (omega arith))
+    go : (b : Bool) → ltb k 24 ≡ b → _≡_ {A = Bool} (elim b [ true ↦ ltb 0 k | false ↦ isRule mode k ]) true → (1 ≤ k) × (k ≤ 23)
+    go true e h = let low : 0 < k = ltb-true 0 k h in let high : k < 24 = ltb-true k 24 e in ((omega arith), (omega arith))
     go false e h = absurd (false≢true (sym r ∙ h))
 
 -- those are kinds of every file
-pub kind-of-all : (mode k : ℕ) → 1 ≤ k → k ≤ 22 → isKind mode k ≡ true
+pub kind-of-all : (mode k : ℕ) → 1 ≤ k → k ≤ 23 → isKind mode k ≡ true
 unfolding isKind
-kind-of-all mode k p q = when-less (ltb 0 k) (isRule mode k) k 23 (omega arith) ∙ lt-ltb 0 k (omega arith)
+kind-of-all mode k p q = when-less (ltb 0 k) (isRule mode k) k 24 (omega arith) ∙ lt-ltb 0 k (omega arith)
 
 -- no file allows less weight than an obligation
 pub least-weight : (mode : ℕ) → mostWeight 0 ≤ mostWeight mode
@@ -209,7 +209,7 @@ module _ (mode : ℕ) (ob s : List ℕ) (r : ReadObligation ob) (t : ReadSecond 
           go true e = let more : countOf ob < suc n = ltb-true (countOf ob) (suc n) e in omega arith
           go false e =
               let own = obligation-sound ob s r (suc n) (omega arith) (ltb-false (countOf ob) (suc n) e) in
-              let most : beside ob s (suc n) 0 ≤ 22 = kind-or-rule 0 (beside ob s (suc n) 0) (own .kind) (no-rule (beside ob s (suc n) 0)) .1 in
+              let most : beside ob s (suc n) 0 ≤ 23 = kind-or-rule 0 (beside ob s (suc n) 0) (own .kind) (no-rule (beside ob s (suc n) 0)) .1 in
               absurd (omega arith)
 
       high : (b : Bool) → ltb (lastOf ob s) n ≡ b → n ≤ lastOf ob s

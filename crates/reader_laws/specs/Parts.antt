@@ -167,7 +167,7 @@ module _ (mode : ℕ) (rd : Reader) (i : ℕ) (s : Sound mode rd i) (k : ℕ) (e
       tree rd i ≡ node k a x y z
   tree-of p a x y z ea ex ey ez = rw (tree-step rd i p, e, ea, ex, ey, ez)
 
--- The trees of the kinds 1 to 22.
+-- The trees of the kinds 1 to 23.
 module _ (mode : ℕ) (rd : Reader) (i : ℕ) (s : Sound mode rd i) (p : 1 ≤ i) where
   pub link-tree : rd i 0 ≡ 1 → tree rd i ≡ node 1 0 (tree rd (rd i 1)) leaf (tree rd (rd i 3))
   unfolding role ifLt isSymbol isNumber ifEq
@@ -345,6 +345,14 @@ module _ (mode : ℕ) (rd : Reader) (i : ℕ) (s : Sound mode rd i) (p : 1 ≤ i
       (part-tree mode rd i s 22 e 2 (omega arith) (omega arith) (omega arith))
       (no-part mode rd i s 22 e 3 (omega arith))
 
+  pub choice-tree : rd i 0 ≡ 23 → tree rd i ≡ node 23 0 (tree rd (rd i 1)) (tree rd (rd i 2)) leaf
+  unfolding role ifLt isSymbol isNumber ifEq
+  choice-tree e =
+      tree-of mode rd i s 23 e p 0 (tree rd (rd i 1)) (tree rd (rd i 2)) leaf (atom-none mode rd i s 23 e refl refl)
+      (part-tree mode rd i s 23 e 1 (omega arith) (omega arith) (omega arith))
+      (part-tree mode rd i s 23 e 2 (omega arith) (omega arith) (omega arith))
+      (no-part mode rd i s 23 e 3 (omega arith))
+
 -- The records that the words of the kinds name, and their numbers.
 module _ (mode : ℕ) (rd : Reader) (i : ℕ) (s : Sound mode rd i) where
   pub link-third : rd i 0 ≡ 1 → Chain rd i 3 0
@@ -502,6 +510,14 @@ module _ (mode : ℕ) (rd : Reader) (i : ℕ) (s : Sound mode rd i) where
   pub for-all-types-second : rd i 0 ≡ 22 → Part rd i 2 5
   unfolding role ifLt ifEq
   for-all-types-second e = formula-part mode rd i s 22 e 2 (omega arith) (omega arith) refl
+
+  pub choice-first : rd i 0 ≡ 23 → Part rd i 1 4
+  unfolding role ifLt ifEq
+  choice-first e = term-part mode rd i s 23 e 1 (omega arith) (omega arith) refl
+
+  pub choice-second : rd i 0 ≡ 23 → Part rd i 2 3
+  unfolding role ifLt ifEq
+  choice-second e = type-part mode rd i s 23 e 2 (omega arith) (omega arith) refl
 
   -- a link's item is a smaller record that is not 0
   pub link-item : rd i 0 ≡ 1 → (1 ≤ rd i 1) × (rd i 1 < i) × (lower rd i 1 ≡ rd i 1)

@@ -214,7 +214,7 @@ module _ (mode : ℕ) (known : mode ≤ 2) (ob s : List ℕ) (o : WellFormedObli
           go true e = let more : countOf ob < suc n = ltb-true (countOf ob) (suc n) e in omega arith
           go false e =
               let own = obligation-sound ob s (obligation-out ob o) (suc n) (omega arith) (ltb-false (countOf ob) (suc n) e) in
-              let most : beside ob s (suc n) 0 ≤ 22 = kind-or-rule 0 (beside ob s (suc n) 0) (own .kind) (no-rule (beside ob s (suc n) 0)) .1 in
+              let most : beside ob s (suc n) 0 ≤ 23 = kind-or-rule 0 (beside ob s (suc n) 0) (own .kind) (no-rule (beside ob s (suc n) 0)) .1 in
               absurd (omega arith)
 
       high : (b : Bool) → ltb (lastOf ob s) (rootOf s) ≡ b → rootOf s ≤ lastOf ob s

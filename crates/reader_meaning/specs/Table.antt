@@ -1,4 +1,4 @@
--- The table of records of paper 01: the kind of a record and each of its words, the lengths of its chains, the kinds with a weight and the most that
+-- The table of records of paper 01, with kind 23 of paper 02, U3: the kind of a record and each of its words, the lengths of its chains, the kinds with a weight and the most that
 -- they may weigh. `mode` is the kind of file: 0 an obligation, 1 a proof, 2 a derivation.
 use Prim.Native.Nat.{ℕ, _<_, _≤_}
 use mathlib.Core.Path.{_≡_}
@@ -58,7 +58,7 @@ pub data RuleKind (mode k : ℕ) : Type 0 where
 
 -- the kinds of a file: those of the table's other rows stand in every file
 pub data Kind (mode k : ℕ) : Type 0 where
-  table : 1 ≤ k → k ≤ 22 → Kind mode k
+  table : 1 ≤ k → k ≤ 23 → Kind mode k
   rule : RuleKind mode k → Kind mode k
 
 -- The table of records: the kind of record i and each of its words; "Words not listed are 0."
@@ -85,6 +85,7 @@ pub data Entry (mode : ℕ) (rd : Reader) (i : ℕ) : Type 0 where
   equation : rd i 0 ≡ 20 → NamesTerm rd i 1 → NamesTerm rd i 2 → rd i 3 ≡ 0 → Entry mode rd i
   membership : rd i 0 ≡ 21 → NamesTerm rd i 1 → NamesTerm rd i 2 → rd i 3 ≡ 0 → Entry mode rd i
   for-all-types : rd i 0 ≡ 22 → 1 ≤ rd i 1 → rd i 1 ≤ 4 → NamesFormula rd i 2 → rd i 3 ≡ 0 → Entry mode rd i
+  choice : rd i 0 ≡ 23 → NamesTerm rd i 1 → NamesType rd i 2 → rd i 3 ≡ 0 → Entry mode rd i
   rule-node : RuleKind mode (rd i 0) → MayName rd i 1 1 → MayName rd i 2 1 → rd i 3 ≡ 0 → Entry mode rd i
 
 -- The same table, of each row the words that are no references: "4 range or word not 0".
@@ -111,6 +112,7 @@ pub data Ranges (mode : ℕ) (rd : Reader) (i : ℕ) : Type 0 where
   equation : rd i 0 ≡ 20 → rd i 3 ≡ 0 → Ranges mode rd i
   membership : rd i 0 ≡ 21 → rd i 3 ≡ 0 → Ranges mode rd i
   for-all-types : rd i 0 ≡ 22 → 1 ≤ rd i 1 → rd i 1 ≤ 4 → rd i 3 ≡ 0 → Ranges mode rd i
+  choice : rd i 0 ≡ 23 → rd i 3 ≡ 0 → Ranges mode rd i
   rule-node : RuleKind mode (rd i 0) → rd i 3 ≡ 0 → Ranges mode rd i
 
 -- Chain lengths: at most 4 name records (none for what is no symbol), 1 to 5 types, at most 4 arguments.

@@ -331,18 +331,18 @@ rule-least (RuleKind.derivation m low high) = omega arith
 
 pub kind-in : (mode k : ℕ) → isKind mode k ≡ true → Kind mode k
 unfolding isKind ifLt
-kind-in mode k h = go (ltb k 23) refl h
+kind-in mode k h = go (ltb k 24) refl h
   where
-    go : (b : Bool) → ltb k 23 ≡ b → _≡_ {A = Bool} (elim b [ true ↦ ltb 0 k | false ↦ isRule mode k ]) true → Kind mode k
-    go true e h = let l = ltb-true k 23 e in Kind.table (ltb-true 0 k h) (omega arith)
+    go : (b : Bool) → ltb k 24 ≡ b → _≡_ {A = Bool} (elim b [ true ↦ ltb 0 k | false ↦ isRule mode k ]) true → Kind mode k
+    go true e h = let l = ltb-true k 24 e in Kind.table (ltb-true 0 k h) (omega arith)
     go false e h = Kind.rule (rule-in mode k h)
 
 pub kind-out : {mode k : ℕ} → Kind mode k → isKind mode k ≡ true
 unfolding isKind
-kind-out {mode} {k} (Kind.table low high) = when-less (ltb 0 k) (isRule mode k) k 23 (omega arith) ∙ lt-ltb 0 k low
+kind-out {mode} {k} (Kind.table low high) = when-less (ltb 0 k) (isRule mode k) k 24 (omega arith) ∙ lt-ltb 0 k low
 kind-out {mode} {k} (Kind.rule r) =
     let low = rule-least r in
-    when-not-less (ltb 0 k) (isRule mode k) k 23 (omega arith) ∙ rule-out r
+    when-not-less (ltb 0 k) (isRule mode k) k 24 (omega arith) ∙ rule-out r
 
 -- the least of some numbers, or more
 least : (c k : ℕ) → c ≤ k → (k ≡ c) ⊎ (suc c ≤ k)
@@ -352,12 +352,12 @@ least c k h = go (eqb k c) refl
     go true e = inl (eqb-true k c e)
     go false e = let other = eqb-false k c e in inr (omega arith)
 
--- what holds of each of the kinds 1 to 22
-by-kind : {C : Type 0} (k : ℕ) → 1 ≤ k → k ≤ 22 →
+-- what holds of each of the kinds 1 to 23
+by-kind : {C : Type 0} (k : ℕ) → 1 ≤ k → k ≤ 23 →
     (k ≡ 1 → C) → (k ≡ 2 → C) → (k ≡ 3 → C) → (k ≡ 4 → C) → (k ≡ 5 → C) → (k ≡ 6 → C) → (k ≡ 7 → C) → (k ≡ 8 → C) →
     (k ≡ 9 → C) → (k ≡ 10 → C) → (k ≡ 11 → C) → (k ≡ 12 → C) → (k ≡ 13 → C) → (k ≡ 14 → C) → (k ≡ 15 → C) →
-    (k ≡ 16 → C) → (k ≡ 17 → C) → (k ≡ 18 → C) → (k ≡ 19 → C) → (k ≡ 20 → C) → (k ≡ 21 → C) → (k ≡ 22 → C) → C
-by-kind k low high k1 k2 k3 k4 k5 k6 k7 k8 k9 k10 k11 k12 k13 k14 k15 k16 k17 k18 k19 k20 k21 k22 =
+    (k ≡ 16 → C) → (k ≡ 17 → C) → (k ≡ 18 → C) → (k ≡ 19 → C) → (k ≡ 20 → C) → (k ≡ 21 → C) → (k ≡ 22 → C) → (k ≡ 23 → C) → C
+by-kind k low high k1 k2 k3 k4 k5 k6 k7 k8 k9 k10 k11 k12 k13 k14 k15 k16 k17 k18 k19 k20 k21 k22 k23 =
     ⊎-elim k1 (λ h.
     ⊎-elim k2 (λ h.
     ⊎-elim k3 (λ h.
@@ -380,12 +380,13 @@ by-kind k low high k1 k2 k3 k4 k5 k6 k7 k8 k9 k10 k11 k12 k13 k14 k15 k16 k17 k1
     ⊎-elim k20 (λ h.
     ⊎-elim k21 (λ h.
     ⊎-elim k22 (λ h.
+    ⊎-elim k23 (λ h.
     absurd (omega arith)
-    ) (least 22 k h)) (least 21 k h)) (least 20 k h)) (least 19 k h)) (least 18 k h)
-    ) (least 17 k h)) (least 16 k h)) (least 15 k h)) (least 14 k h)) (least 13 k h)
-    ) (least 12 k h)) (least 11 k h)) (least 10 k h)) (least 9 k h)) (least 8 k h)
-    ) (least 7 k h)) (least 6 k h)) (least 5 k h)) (least 4 k h)) (least 3 k h)
-    ) (least 2 k h)) (least 1 k low)
+    ) (least 23 k h)) (least 22 k h)) (least 21 k h)) (least 20 k h)) (least 19 k h)
+    ) (least 18 k h)) (least 17 k h)) (least 16 k h)) (least 15 k h)) (least 14 k h)
+    ) (least 13 k h)) (least 12 k h)) (least 11 k h)) (least 10 k h)) (least 9 k h)
+    ) (least 8 k h)) (least 7 k h)) (least 6 k h)) (least 5 k h)) (least 4 k h)
+    ) (least 3 k h)) (least 2 k h)) (least 1 k low)
 
 -- A record of a kind that passes its tests is one of the table.
 module _ (mode : ℕ) (rd : Reader) (i : ℕ) (fits : (w : ℕ) → 1 ≤ w → w ≤ 3 → Fit rd i w) where
@@ -402,7 +403,7 @@ module _ (mode : ℕ) (rd : Reader) (i : ℕ) (fits : (w : ℕ) → 1 ≤ w → 
   is : (w k : ℕ) → rd i 0 ≡ k → roleAt rd i w ≡ role k w
   is w k e = role-known rd i w k e
 
-  table-in : 1 ≤ rd i 0 → rd i 0 ≤ 22 → Entry mode rd i
+  table-in : 1 ≤ rd i 0 → rd i 0 ≤ 23 → Entry mode rd i
   unfolding role ifLt ifEq
   table-in low high =
       by-kind (rd i 0) low high
@@ -429,6 +430,7 @@ module _ (mode : ℕ) (rd : Reader) (i : ℕ) (fits : (w : ℕ) → 1 ≤ w → 
       (λ e. Entry.membership e (term-in rd i 1 (is 1 21 e) fit-1) (term-in rd i 2 (is 2 21 e) fit-2) (zero-in rd i 3 (is 3 21 e) fit-3))
       (λ e. let c = count-in rd i 1 (is 1 22 e) fit-1 in
       Entry.for-all-types e (c .0) (c .1) (formula-in rd i 2 (is 2 22 e) fit-2) (zero-in rd i 3 (is 3 22 e) fit-3))
+      (λ e. Entry.choice e (term-in rd i 1 (is 1 23 e) fit-1) (type-in rd i 2 (is 2 23 e) fit-2) (zero-in rd i 3 (is 3 23 e) fit-3))
 
   rule-entry : RuleKind mode (rd i 0) → Entry mode rd i
   unfolding role ifEq ifLt
@@ -498,6 +500,8 @@ entry-out {mode} {rd} {i} (Entry.membership e x y z) =
 entry-out {mode} {rd} {i} (Entry.for-all-types e x y z u) =
     three-words rd i (count-out rd i 1 (role-known rd i 1 22 e) x y) (formula-out rd i 2 (role-known rd i 2 22 e) z)
     (zero-out rd i 3 (role-known rd i 3 22 e) u)
+entry-out {mode} {rd} {i} (Entry.choice e x y z) =
+    three-words rd i (term-out rd i 1 (role-known rd i 1 23 e) x) (type-out rd i 2 (role-known rd i 2 23 e) y) (zero-out rd i 3 (role-known rd i 3 23 e) z)
 entry-out {mode} {rd} {i} (Entry.rule-node r x y z) =
     let rule : (w : ℕ) → roleAt rd i w ≡ ruleRole w = λ w. role-known rd i w (rd i 0) refl ∙ rule-role (rd i 0) (rule-least r) w in
     three-words rd i (rule-chain-out rd i 1 (rule 1) x) (rule-chain-out rd i 2 (rule 2) y) (zero-out rd i 3 (rule 3) z)
@@ -525,6 +529,7 @@ entry-kind (Entry.universal e x y z) = Kind.table (omega arith) (omega arith)
 entry-kind (Entry.equation e x y z) = Kind.table (omega arith) (omega arith)
 entry-kind (Entry.membership e x y z) = Kind.table (omega arith) (omega arith)
 entry-kind (Entry.for-all-types e x y z u) = Kind.table (omega arith) (omega arith)
+entry-kind (Entry.choice e x y z) = Kind.table (omega arith) (omega arith)
 entry-kind (Entry.rule-node r x y z) = Kind.rule r
 
 -- The same of the tests of range alone.
@@ -532,7 +537,7 @@ module _ (mode : ℕ) (rd : Reader) (i : ℕ) (fit-1 : rangeAt rd i 1 ≡ true) 
   role-at : (w k : ℕ) → rd i 0 ≡ k → roleAt rd i w ≡ role k w
   role-at w k e = role-known rd i w k e
 
-  table-ranges : 1 ≤ rd i 0 → rd i 0 ≤ 22 → Ranges mode rd i
+  table-ranges : 1 ≤ rd i 0 → rd i 0 ≤ 23 → Ranges mode rd i
   unfolding role ifLt ifEq
   table-ranges low high =
       by-kind (rd i 0) low high
@@ -560,6 +565,7 @@ module _ (mode : ℕ) (rd : Reader) (i : ℕ) (fit-1 : rangeAt rd i 1 ≡ true) 
       (λ e. Ranges.membership e (zero-range rd i 3 (role-at 3 21 e) fit-3))
       (λ e. let c = count-range rd i 1 (role-at 1 22 e) fit-1 in
       Ranges.for-all-types e (c .0) (c .1) (zero-range rd i 3 (role-at 3 22 e) fit-3))
+      (λ e. Ranges.choice e (zero-range rd i 3 (role-at 3 23 e) fit-3))
 
   pub ranges-in : Kind mode (rd i 0) → Ranges mode rd i
   unfolding role ifLt ifEq
@@ -661,6 +667,10 @@ ranges-out {mode} {rd} {i} (Ranges.for-all-types e p q x) =
     three-words-range rd i (range-out rd i 1 5 (role-known rd i 1 22 e) (range-count rd i 1 p q))
     (range-out rd i 2 14 (role-known rd i 2 22 e) refl)
     (range-out rd i 3 0 (role-known rd i 3 22 e) (range-zero rd i 3 x))
+ranges-out {mode} {rd} {i} (Ranges.choice e x) =
+    three-words-range rd i (range-out rd i 1 13 (role-known rd i 1 23 e) refl)
+    (range-out rd i 2 12 (role-known rd i 2 23 e) refl)
+    (range-out rd i 3 0 (role-known rd i 3 23 e) (range-zero rd i 3 x))
 ranges-out {mode} {rd} {i} (Ranges.rule-node r z) =
     let rule : (w : ℕ) → roleAt rd i w ≡ ruleRole w = λ w. role-known rd i w (rd i 0) refl ∙ rule-role (rd i 0) (rule-least r) w in
     three-words-range rd i (range-out rd i 1 8 (rule 1) refl) (range-out rd i 2 8 (rule 2) refl) (range-out rd i 3 0 (rule 3) (range-zero rd i 3 z))
@@ -688,6 +698,7 @@ ranges-kind (Ranges.universal e x) = Kind.table (omega arith) (omega arith)
 ranges-kind (Ranges.equation e x) = Kind.table (omega arith) (omega arith)
 ranges-kind (Ranges.membership e x) = Kind.table (omega arith) (omega arith)
 ranges-kind (Ranges.for-all-types e x y z) = Kind.table (omega arith) (omega arith)
+ranges-kind (Ranges.choice e x) = Kind.table (omega arith) (omega arith)
 ranges-kind (Ranges.rule-node r z) = Kind.rule r
 
 -- chain lengths

@@ -91,6 +91,10 @@ module _ (rd : Reader) (i : ℕ) where
   unfolding role ifLt isSymbol isNumber ifEq
   powerset-made h = made-2 rd i 12 h (omega arith) refl refl (omega arith)
 
+  pub choice-made : kindOf (tree rd i) ≡ 23 → tree rd i ≡ node 23 0 (tree rd (child rd i 1)) (tree rd (child rd i 2)) leaf
+  unfolding role ifLt isSymbol isNumber ifEq
+  choice-made h = made-2 rd i 23 h (omega arith) refl refl (omega arith)
+
   pub pair-made : kindOf (tree rd i) ≡ 10 → tree rd i ≡ node 10 0 (tree rd (child rd i 1)) (tree rd (child rd i 2)) (tree rd (child rd i 3))
   unfolding role ifLt isSymbol isNumber ifEq
   pair-made h = made-3 rd i 10 h (omega arith) refl refl

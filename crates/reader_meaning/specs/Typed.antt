@@ -1,4 +1,4 @@
--- Typing of records, in paper 01's words.
+-- Typing of records, in the words of paper 01 and of paper 02, U3.
 use Prim.Native.Nat.{ℕ}
 use mathlib.Core.Path.{_≡_}
 use mathlib.Core.List.{List, _∷_, map}
@@ -41,3 +41,5 @@ pub record Typed (rd : Reader) (i : ℕ) : Type 0 where
   pub equation : (t u : Tree) → tree rd i ≡ (t =ᵗ u) → typeOf t ≡ typeOf u
   -- "x ∈ s needs s of type Set(τ) for x of τ"
   pub membership : (x s : Tree) → tree rd i ≡ node 21 0 x s leaf → typeOf s ≡ setᵗ (typeOf x)
+  -- "s is of type Set(τ)" (paper 02, U3)
+  pub choice : (s τ : Tree) → tree rd i ≡ node 23 0 s τ leaf → typeOf s ≡ setᵗ τ

@@ -13,12 +13,12 @@ use Rattle.reader.specs.Trees.{Tree, leaf, node, lower, child, tree, kindOf, fi
 use Rattle.reader.specs.Chains.{itemTrees}
 use Rattle.reader.specs.Variables.{typesBelow, instance}
 use Rattle.reader.specs.TreeLaws.{tree-zero, tree-step, same-equal, same-self}
-use Rattle.reader.specs.Typing.{typeOf, sameAll, pairTyped, productTyped, powersetTyped, equalTyped, memberTyped, forAllTyped}
+use Rattle.reader.specs.Typing.{typeOf, sameAll, pairTyped, productTyped, powersetTyped, choiceTyped, equalTyped, memberTyped, forAllTyped}
 use Rattle.reader.specs.Typing.{constantTyped, signature, functionTyped, applicationTyped, isTyped}
 use Rattle.reader_laws.specs.Scan.{both-parts, both-join}
 use Rattle.reader.specs.Notions.{TypesBelow}
 use Rattle.reader_laws.specs.NotionLaws.{every-in, every-out, types-in, types-out, bears-in, bears-out}
-use Rattle.reader_meaning.specs.TreeForms.{kind-is, constant-made, pair-made, product-made, powerset-made}
+use Rattle.reader_meaning.specs.TreeForms.{kind-is, constant-made, pair-made, product-made, powerset-made, choice-made}
 use Rattle.reader_meaning.specs.TreeForms.{for-all-made, equal-made, member-made, set-made}
 use Rattle.reader_meaning.specs.Typed.{Applied, Typed}
 
@@ -96,7 +96,7 @@ typingOf k rd i =
     (ifEq k 13 (applicationTyped rd i)
     (ifEq k 19 (forAllTyped (tree rd i))
     (ifEq k 20 (equalTyped (tree rd i))
-    (ifEq k 21 (memberTyped (tree rd i)) true))))))))
+    (ifEq k 21 (memberTyped (tree rd i)) (ifEq k 23 (choiceTyped (tree rd i)) true)))))))))
 
 -- An application's words are references to smaller records, or 0.
 abbrev pub Lowered : Reader → ℕ → Type 0
@@ -159,7 +159,7 @@ module _ (rd : Reader) (i : ℕ) (lowered : rd i 0 ≡ 13 → Lowered rd i) (h :
       (firstOf (typeOf x), sx, same-equal own _ (p .1) ∙ ap setᵗ sx)
 
   pub typed-in : Typed rd i
-  unfolding typingOf ifEq constantTyped functionTyped pairTyped forAllTyped equalTyped memberTyped firstOf secondOf thirdOf
+  unfolding typingOf ifEq constantTyped functionTyped pairTyped forAllTyped equalTyped memberTyped choiceTyped firstOf secondOf thirdOf
   typed-in = record {
     constant = λ c τ e. types-in 0 τ (ap constantTyped (sym e) ∙ tested 7 (shown 7 c τ leaf leaf (omega arith) e));
     function = λ e. every-in (typesBelow (rd i 2)) (TypesBelow (rd i 2)) (types-in (rd i 2)) (signature rd i) (tested 8 e);
@@ -170,6 +170,7 @@ module _ (rd : Reader) (i : ℕ) (lowered : rd i 0 ≡ 13 → Lowered rd i) (h :
     universal = λ τ B e. bears-in τ 0 B (ap forAllTyped (sym e) ∙ tested 19 (shown 19 0 τ B leaf (omega arith) e));
     equation = λ t u e. same-equal _ _ (ap equalTyped (sym e) ∙ tested 20 (shown 20 0 t u leaf (omega arith) e));
     membership = λ x s e. same-equal _ _ (ap memberTyped (sym e) ∙ tested 21 (shown 21 0 x s leaf (omega arith) e));
+    choice = λ s τ e. same-equal _ _ (ap choiceTyped (sym e) ∙ tested 23 (shown 23 0 s τ leaf (omega arith) e));
   }
 
 -- From the facts to the test, for a record that is not 0.
@@ -210,7 +211,11 @@ module _ (rd : Reader) (i : ℕ) (pos : 0 < i) (lowered : rd i 0 ≡ 13 → Lowe
   unfolding memberTyped firstOf secondOf
   membership-out e = let m = member-made rd i (tree-kind 21 e) in rw m (rw (t .membership _ _ m) (same-self _))
 
-  -- a choice whose tests both pass
+  choice-out : rd i 0 ≡ 23 → choiceTyped (tree rd i) ≡ true
+  unfolding choiceTyped firstOf secondOf
+  choice-out e = let m = choice-made rd i (tree-kind 23 e) in rw m (rw (t .choice _ _ m) (same-self _))
+
+  -- a test by kind, both of whose outcomes pass
   passing : (k c : ℕ) (x y : Bool) → (k ≡ c → x ≡ true) → y ≡ true → ifEq k c x y ≡ true
   unfolding ifEq
   passing k c x y f g = go (eqb k c) refl
@@ -228,4 +233,5 @@ module _ (rd : Reader) (i : ℕ) (pos : 0 < i) (lowered : rd i 0 ≡ 13 → Lowe
       (passing (rd i 0) 11 _ _ product-out
       (passing (rd i 0) 12 _ _ powerset-out
       (passing (rd i 0) 13 _ _ (λ e. applied-out rd i (lowered e) (t .application e))
-      (passing (rd i 0) 19 _ _ universal-out (passing (rd i 0) 20 _ _ equation-out (passing (rd i 0) 21 _ _ membership-out refl))))))))
+      (passing (rd i 0) 19 _ _ universal-out (passing (rd i 0) 20 _ _ equation-out
+      (passing (rd i 0) 21 _ _ membership-out (passing (rd i 0) 23 _ _ choice-out refl)))))))))

@@ -1,4 +1,4 @@
--- Types of terms by record, and the ways out of the code that tests the typing of constants, pairs, products, powersets, ∀, = and ∈.
+-- Types of terms by record, and the ways out of the code that tests the typing of constants, pairs, products, powersets, choices, ∀, = and ∈.
 use Prim.Native.Nat.{ℕ, zero, suc, _≤_}
 use mathlib.Core.Path.{_≡_, refl}
 use mathlib.Core.Bool.{Bool, true, false}
@@ -10,7 +10,7 @@ use Rattle.reader.specs.Tests.{both, ifEq, ifLt}
 use Rattle.reader.specs.Kinds.{role}
 use Rattle.reader.specs.Trees.{Tree, lower, child, tree, kindOf, firstOf, secondOf, same}
 use Rattle.reader.specs.Variables.{bears, typesBelow}
-use Rattle.reader.specs.Typing.{typeOf, constantTyped, pairTyped, productTyped, powersetTyped, forAllTyped, equalTyped, memberTyped}
+use Rattle.reader.specs.Typing.{typeOf, constantTyped, pairTyped, productTyped, powersetTyped, choiceTyped, forAllTyped, equalTyped, memberTyped}
 use Rattle.reader.specs.TreeLaws.{tree-zero, tree-step}
 use Rattle.reader_chains.specs.Shapes.{lower-zero, child-zero, child-lower, first-tree, second-tree, third-tree}
 use Rattle.reader_types.specs.SetsAndPairs.{isSetOf, isPairOf, isSetOfPair}
@@ -23,13 +23,13 @@ typeAt rd i =
     (ifEq (rd i 0) 10 (lower rd i 3)
     (ifEq (rd i 0) 11 (lower rd i 3)
     (ifEq (rd i 0) 12 (lower rd i 2)
-    (ifEq (rd i 0) 13 (child rd (lower rd i 2) 1) 0)))))
+    (ifEq (rd i 0) 13 (child rd (lower rd i 2) 1) (ifEq (rd i 0) 23 (lower rd i 2) 0))))))
 
 -- the type of the term that word w of record i refers to
 unfoldable pub partType : Reader → ℕ → ℕ → ℕ
 partType rd i w = typeAt rd (child rd i w)
 
--- the tree of a choice
+-- the tree of one record or another
 tree-if : (rd : Reader) (a b x y : ℕ) (u v : Tree) → (a ≡ b → tree rd x ≡ u) → tree rd y ≡ v → tree rd (ifEq a b x y) ≡ ifEq a b u v
 unfolding ifEq
 tree-if rd a b x y u v p q = go (eqb a b) refl
@@ -55,7 +55,7 @@ type-zero rd =
     (if-zero (rd 0 0) 10 _ _ (lower-zero rd 3)
     (if-zero (rd 0 0) 11 _ _ (lower-zero rd 3)
     (if-zero (rd 0 0) 12 _ _ (lower-zero rd 2)
-    (if-zero (rd 0 0) 13 _ _ (rw (lower-zero rd 2) (child-zero rd 1)) refl)))))
+    (if-zero (rd 0 0) 13 _ _ (rw (lower-zero rd 2) (child-zero rd 1)) (if-zero (rd 0 0) 23 _ _ (lower-zero rd 2) refl))))))
 
 -- a part that the table gives is what the word refers to
 part-tree : (rd : Reader) (i k w : ℕ) → 10 ≤ role k w → rd i 0 ≡ k → tree rd (lower rd i w) ≡ tree rd (child rd i w)
@@ -73,7 +73,8 @@ type-tree rd (suc i) =
     (tree-if rd k 10 _ _ _ _ (part-tree rd (suc i) 10 3 (omega arith))
     (tree-if rd k 11 _ _ _ _ (part-tree rd (suc i) 11 3 (omega arith))
     (tree-if rd k 12 _ _ _ _ (part-tree rd (suc i) 12 2 (omega arith))
-    (tree-if rd k 13 _ _ _ _ (λ e. rw (child-lower rd (suc i) 13 e 2 (omega arith), first-tree)) (tree-zero rd)))))))
+    (tree-if rd k 13 _ _ _ _ (λ e. rw (child-lower rd (suc i) 13 e 2 (omega arith), first-tree))
+    (tree-if rd k 23 _ _ _ _ (part-tree rd (suc i) 23 2 (omega arith)) (tree-zero rd))))))))
 
 -- The ways out of `type_at` and `part_type`.
 pub own-type : (rd : Reader) (i x r : ℕ) → x ≡ lower rd i 2 → r ≡ child rd x 1 → r ≡ child rd (lower rd i 2) 1
@@ -113,6 +114,10 @@ module _ (rd : Reader) (i : ℕ) (r : Bool) where
     pub member-typed-is : (s : ℕ) → s ≡ partType rd i 2 → r ≡ isSetOf rd s x → r ≡ memberTyped (tree rd i)
     unfolding memberTyped isSetOf
     member-typed-is s es e = rw (first-type rd i, second-type rd i, ← ex, ← es) e
+
+    pub choice-typed-is : (own : ℕ) → own ≡ child rd i 2 → r ≡ isSetOf rd x own → r ≡ choiceTyped (tree rd i)
+    unfolding choiceTyped isSetOf
+    choice-typed-is own p e = rw (first-type rd i, second-tree rd i, ← ex, ← p) e
 
 -- A powerset and a product, as chains of tests.
 module _ (rd : Reader) (i x k : ℕ) (ex : x ≡ partType rd i 1) (ek : k ≡ kindOf (tree rd x)) where

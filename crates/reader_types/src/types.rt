@@ -1,4 +1,4 @@
-// Types of terms, and the typing of constants, pairs, products, powersets, ∀, = and ∈.
+// Types of terms, and the typing of constants, pairs, products, powersets, choices, ∀, = and ∈.
 use crate::shapes;
 use reader::trees;
 use reader::words;
@@ -8,7 +8,7 @@ ghost use lib.ListN.{length};
 ghost use Rattle.reader.specs.Words.{word};
 ghost use Rattle.reader_equality.specs.Least.{Numbered};
 ghost use Rattle.reader.specs.Trees.{tree};
-ghost use Rattle.reader.specs.Typing.{constantTyped, pairTyped, productTyped, powersetTyped, forAllTyped, equalTyped, memberTyped};
+ghost use Rattle.reader.specs.Typing.{constantTyped, pairTyped, productTyped, powersetTyped, choiceTyped, forAllTyped, equalTyped, memberTyped};
 ghost use Rattle.reader_types.specs.Types.{typeAt, partType};
 
 // The record of term i's type, 0 where i is no term.
@@ -34,6 +34,9 @@ pub fn type_at(obligation: &[u8], second: &[u8], m: usize, i: usize) -> usize
     if k == 13 {
         let types = trees::lower_at(obligation, second, m, i, 2);
         return trees::child_at(obligation, second, m, types, 1);
+    }
+    if k == 23 {
+        return trees::lower_at(obligation, second, m, i, 2);
     }
     0
 }
@@ -107,6 +110,16 @@ pub fn powerset_typed(
     }
     let own = trees::child_at(obligation, second, m, i, 2);
     shapes::is_set_of(obligation, second, m, numbers, own, x)
+}
+
+// "s is of type Set(τ)", the choice's own type being τ
+pub fn choice_typed(obligation: &[u8], second: &[u8], m: usize, numbers: &[usize], i: usize) -> bool
+    requires { ⌜ Numbered (word (now obligation) (now second) m) (now numbers) (length (now numbers)) ⌝ }
+    ensures { λ r. ⌜ r ≡ choiceTyped (tree (word (now (obligation .entry)) (now (second .entry)) m) i) ⌝ }
+{
+    let s = part_type(obligation, second, m, i, 1);
+    let own = trees::child_at(obligation, second, m, i, 2);
+    shapes::is_set_of(obligation, second, m, numbers, s, own)
 }
 
 // "In ∀, each occurrence bound by it bears its type."

@@ -49,5 +49,8 @@ pub fn is_typed(
     if k == 21 {
         return types::member_typed(obligation, second, m, numbers, i);
     }
+    if k == 23 {
+        return types::choice_typed(obligation, second, m, numbers, i);
+    }
     true
 }

@@ -102,13 +102,13 @@ module _ (rd other : Reader) (i : ℕ) (same : (w : ℕ) → other i w ≡ rd i 
 partRole : ℕ → ℕ → Bool
 partRole w k = ifLt (class k) 3 true (either (ltb (role k w) 10) (between 12 17 (role k w)))
 
-part-roles : (w : ℕ) → allBelow (partRole w) 23 ≡ true → (k : ℕ) → 3 ≤ class k → either (ltb (role k w) 10) (between 12 17 (role k w)) ≡ true
+part-roles : (w : ℕ) → allBelow (partRole w) 24 ≡ true → (k : ℕ) → 3 ≤ class k → either (ltb (role k w) 10) (between 12 17 (role k w)) ≡ true
 unfolding partRole
-part-roles w all k h = go (ltb k 23) refl
+part-roles w all k h = go (ltb k 24) refl
   where
-    go : (b : Bool) → ltb k 23 ≡ b → either (ltb (role k w) 10) (between 12 17 (role k w)) ≡ true
-    go true e = sym (when-not-less true _ (class k) 3 h) ∙ all-below (partRole w) 23 all k (ltb-true k 23 e)
-    go false e = let none : class k ≡ 0 = class-past k (ltb-false k 23 e) in absurd (omega arith)
+    go : (b : Bool) → ltb k 24 ≡ b → either (ltb (role k w) 10) (between 12 17 (role k w)) ≡ true
+    go true e = sym (when-not-less true _ (class k) 3 h) ∙ all-below (partRole w) 24 all k (ltb-true k 24 e)
+    go false e = let none : class k ≡ 0 = class-past k (ltb-false k 24 e) in absurd (omega arith)
 
 part-role : (k : ℕ) → 3 ≤ class k → (w : ℕ) → 1 ≤ w → w ≤ 3 → either (ltb (role k w) 10) (between 12 17 (role k w)) ≡ true
 unfolding allBelow partRole class role ifEq ifLt between both either

@@ -1,6 +1,7 @@
 -- Records of the proof that the lines of a block name, as the derivation has them.
 use Prim.Native.Nat.{ℕ, zero, suc, _<_, _≤_}
 use mathlib.Core.Path.{_≡_, refl, sym, ap, subst, _∙_}
+use mathlib.Core.Logic.{⊎-elim}
 use mathlib.Core.List.{List}
 use mathlib.Core.Bool.{Bool, true}
 use lib.ListN.{getD, length}
@@ -16,7 +17,7 @@ use Rattle.reader.specs.Records.{mostWeight}
 use Rattle.reader_laws.specs.Scan.{when-different}
 use Rattle.reader_laws.specs.Record.{Sound, weight-limit}
 use Rattle.reader_laws.specs.Parts.{Part, type-part, term-part, formula-part, constant-first, bound-variable-second, pair-third, product-third}
-use Rattle.reader_laws.specs.Parts.{powerset-second, application-second, application-second-given, link-item}
+use Rattle.reader_laws.specs.Parts.{powerset-second, application-second, application-second-given, choice-second, link-item}
 use Rattle.reader_laws.specs.Classes.{class-of-kind, term-class, link-class}
 use Rattle.reader_laws.specs.Links.{item-class}
 use Rattle.translation_rules.specs.Output.{typeRecord}
@@ -91,12 +92,10 @@ word-part mode rd i k w c s e h p =
     (λ r q. let b = role-word k w (omega arith) in subst (λ (c : ℕ). Part rd i w c) q (term-part mode rd i s k e w (b .0) (b .1) r))
     (λ r q. let b = role-word k w (omega arith) in subst (λ (c : ℕ). Part rd i w c) q (formula-part mode rd i s k e w (b .0) (b .1) r))
 
--- the last kind of a term is an application
-more-than : {a k : ℕ} → a ≤ k → (k ≡ a → ⊥) → suc a ≤ k
-more-than low differ = omega arith
-
-last-term : (k : ℕ) → 9 ≤ k → k ≤ 13 → (k ≡ 9 → ⊥) → (k ≡ 10 → ⊥) → (k ≡ 11 → ⊥) → (k ≡ 12 → ⊥) → k ≡ 13
-last-term k low high no9 no10 no11 no12 = omega arith
+-- the last kind of a term is an application, where the choice is passed
+last-term : (k : ℕ) → class k ≡ 4 → (k ≡ 7 → ⊥) → (k ≡ 9 → ⊥) → (k ≡ 10 → ⊥) → (k ≡ 11 → ⊥) → (k ≡ 12 → ⊥) → (k ≡ 23 → ⊥) → k ≡ 13
+last-term k e no7 no9 no10 no11 no12 no23 =
+    ⊎-elim (λ range. let no8 = range .2 in omega (arith, range .0, range .1)) (λ choice. absurd (no23 choice)) (term-class k e)
 
 -- types, terms and formulas are weighed
 sort-weighed : (k : ℕ) → 3 ≤ class k → class k ≤ 5 → isWeighed k ≡ true
@@ -163,10 +162,10 @@ module _ (rd ro : Reader) (last : ℕ) (sound : (i : ℕ) → 1 ≤ i → i ≤ 
   unfolding typeRecord
   type-record x p q e =
       let s = sound x p q in
-      let k = term-class (rd x 0) e in
       choose-equal TypeAt (rd x 0) 7 (λ h. type-word x 1 q (constant-first 1 rd x s h)) (λ not7.
       choose-equal TypeAt (rd x 0) 9 (λ h. type-word x 2 q (bound-variable-second 1 rd x s h)) (λ not9.
       choose-equal TypeAt (rd x 0) 10 (λ h. type-word x 3 q (pair-third 1 rd x s h)) (λ not10.
       choose-equal TypeAt (rd x 0) 11 (λ h. type-word x 3 q (product-third 1 rd x s h)) (λ not11.
       choose-equal TypeAt (rd x 0) 12 (λ h. type-word x 2 q (powerset-second 1 rd x s h)) (λ not12.
-      type-item x q (last-term (rd x 0) (more-than (more-than (k .0) not7) (k .2)) (k .1) not9 not10 not11 not12) s)))))
+      choose-equal TypeAt (rd x 0) 23 (λ h. type-word x 2 q (choice-second 1 rd x s h)) (λ not23.
+      type-item x q (last-term (rd x 0) e not7 not9 not10 not11 not12 not23) s))))))

@@ -43,7 +43,7 @@ written-kind : (k : ℕ) → isWritten k ≡ true → isKind 2 k ≡ true
 unfolding isKind isRule ifEq ifLt between
 written-kind k h =
     written-cases k h (λ e. rw e) (λ e. rw e) (λ e. rw e) (λ e. rw e)
-    (λ p q. when-not-less (ltb 0 k) (isRule 2 k) k 23 (omega arith) ∙ when-not-less false (leb k 80) k 64 p ∙ le-leb k 80 q)
+    (λ p q. when-not-less (ltb 0 k) (isRule 2 k) k 24 (omega arith) ∙ when-not-less false (leb k 80) k 64 p ∙ le-leb k 80 q)
 
 -- references: 0 where that may be, or a smaller record of the wanted class
 pub refers-none : (rd : Reader) (i r : ℕ) → mayBeZero r ≡ true → refers rd i r 0 ≡ true

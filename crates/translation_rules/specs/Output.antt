@@ -17,7 +17,8 @@ typeRecord rd x =
     ifEq (rd x 0) (kinds .constant) (rd x 1)
     (ifEq (rd x 0) (kinds .boundVariable) (rd x 2)
     (ifEq (rd x 0) (kinds .pair) (rd x 3)
-    (ifEq (rd x 0) (kinds .product) (rd x 3) (ifEq (rd x 0) (kinds .powerset) (rd x 2) (rd (rd x 2) 1)))))
+    (ifEq (rd x 0) (kinds .product) (rd x 3)
+    (ifEq (rd x 0) (kinds .powerset) (rd x 2) (ifEq (rd x 0) (kinds .choice) (rd x 2) (rd (rd x 2) 1))))))
 
 -- What the letters of a block stand for: the node, its parts and premises, where the block starts, and where the block of a node ends.
 pub record Letters : Type 0 where

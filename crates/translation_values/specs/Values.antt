@@ -44,18 +44,20 @@ pub type-is : (rd : Reader) (x r : ℕ) →
     ≡ ifEq (rd x 0) (kinds .constant) (rd x 1)
     (ifEq (rd x 0) (kinds .boundVariable) (rd x 2)
     (ifEq (rd x 0) (kinds .pair) (rd x 3)
-    (ifEq (rd x 0) (kinds .product) (rd x 3) (ifEq (rd x 0) (kinds .powerset) (rd x 2) (rd (rd x 2) 1))))) →
+    (ifEq (rd x 0) (kinds .product) (rd x 3)
+    (ifEq (rd x 0) (kinds .powerset) (rd x 2) (ifEq (rd x 0) (kinds .choice) (rd x 2) (rd (rd x 2) 1)))))) →
     r ≡ typeRecord rd x
 unfolding typeRecord
 type-is rd x r e = e
 
 -- an application's type is the first of its chain of types
 pub type-of-application : (rd : Reader) (x k y r : ℕ) → k ≡ rd x 0 → (k ≡ 7 → ⊥) → (k ≡ 9 → ⊥) → (k ≡ 10 → ⊥) → (k ≡ 11 → ⊥) → (k ≡ 12 → ⊥) →
-    y ≡ rd x 2 → r ≡ rd y 1 → r ≡ typeRecord rd x
-type-of-application rd x k y r ek p q s t u ey er =
+    (k ≡ 23 → ⊥) → y ≡ rd x 2 → r ≡ rd y 1 → r ≡ typeRecord rd x
+type-of-application rd x k y r ek p q s t u v ey er =
     type-is rd x r
     (eq-no-of _ _ _ _ r k ek p
-    (eq-no-of _ _ _ _ r k ek q (eq-no-of _ _ _ _ r k ek s (eq-no-of _ _ _ _ r k ek t (eq-no-of _ _ _ _ r k ek u (rw (← ey) er))))))
+    (eq-no-of _ _ _ _ r k ek q
+    (eq-no-of _ _ _ _ r k ek s (eq-no-of _ _ _ _ r k ek t (eq-no-of _ _ _ _ r k ek u (eq-no-of _ _ _ _ r k ek v (rw (← ey) er)))))))
 
 -- The ways out of `value_of`, by the byte.
 module _ (rd : Reader) (table : List ℕ) (i base c : ℕ) where

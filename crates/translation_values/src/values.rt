@@ -61,6 +61,9 @@ fn type_at(obligation: &[u8], proof: &[u8], m: usize, x: usize) -> usize
     if record.kind == 12 {
         return record.b;
     }
+    if record.kind == 23 {
+        return record.b;
+    }
     words::word_at(obligation, proof, m, record.b, 1)
 }
 

@@ -10,7 +10,7 @@ use Rattle.reader.proofs.kinds.row_of.Tie as tie
 pub row-of-spec : {M : Type 1} → statement M
 unfolding unpacked ifLt
 row-of-spec = tie.close (tie.spec
-    -- kinds 1 to 22, one after the other
+    -- kinds 1 to 23, one after the other
     (λ c. ap layout (sym (c .match .keys1)))
     (λ c. ap layout (sym (c .match .keys2)))
     (λ c. ap layout (sym (c .match .keys3)))
@@ -33,7 +33,8 @@ row-of-spec = tie.close (tie.spec
     (λ c. ap layout (sym (c .match .keys20)))
     (λ c. ap layout (sym (c .match .keys21)))
     (λ c. ap layout (sym (c .match .keys22)))
-    -- returns-23: if1; 1 match; 2 args
-    (λ c. row-rule _ (c .if1 .taken))
+    (λ c. ap layout (sym (c .match .keys23)))
     -- returns-24: if1; 1 match; 2 args
-    (λ c. row-none (c .before .before .args .k) (omega arith) (λ h. rest-past 1 (c .before .before .args .k) 22 (omega (arith, h)) (c .before .match .rest))))
+    (λ c. row-rule _ (c .if1 .taken))
+    -- returns-25: if1; 1 match; 2 args
+    (λ c. row-none (c .before .before .args .k) (omega arith) (λ h. rest-past 1 (c .before .before .args .k) 23 (omega (arith, h)) (c .before .match .rest))))

@@ -35,5 +35,9 @@ type-at-spec = tie.close (tie.spec
     (λ c κs. search needs)
     -- returns-6: child-at; 1 lower-at6; 2 if6; 3 if5; 4 if4; 5 if3; 6 if2; 7 if1; 8 word-at; 11 args
     (λ c. search (ifs-of, own-type) depth 20 fits 4000)
-    -- returns-7: if6; 1 if5; 2 if4; 3 if3; 4 if2; 5 if1; 6 word-at; 9 args
+    -- lower-at-requires-7: if7; 1 if6; 2 if5; 3 if4; 4 if3; 5 if2; 6 if1; 7 word-at; 10 args
+    (λ c κs. search needs)
+    -- returns-7: lower-at7; 1 if7; 2 if6; 3 if5; 4 if4; 5 if3; 6 if2; 7 if1; 8 word-at; 11 args
+    (λ c. search ifs-of depth 20 fits 4000)
+    -- returns-8: if7; 1 if6; 2 if5; 3 if4; 4 if3; 5 if2; 6 if1; 7 word-at; 10 args
     (λ c. search ifs-of depth 20 fits 4000))

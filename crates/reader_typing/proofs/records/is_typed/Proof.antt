@@ -49,5 +49,9 @@ is-typed-spec = tie.close (tie.spec
     (λ c κs. search needs)
     -- returns-9: member-typed; 1 if9; 2 if8; 3 if7; 4 if6; 5 if5; 6 if4; 7 if3; 8 if2; 9 if1; 10 word-at; 15 args
     (λ c. (search ifs-of depth 20 fits 4000, c .before .before .before .before .before .before .before .before .before .before .before .before .before .before .before .pre .1))
-    -- returns-10: if9; 1 if8; 2 if7; 3 if6; 4 if5; 5 if4; 6 if3; 7 if2; 8 if1; 9 word-at; 14 args
-    (λ c. (search ifs-of depth 20 fits 4000, c .before .before .before .before .before .before .before .before .before .before .before .before .before .before .pre .1)))
+    -- choice-typed-requires: if10; 1 if9; 2 if8; 3 if7; 4 if6; 5 if5; 6 if4; 7 if3; 8 if2; 9 if1; 10 word-at; 15 args
+    (λ c κs. search needs)
+    -- returns-10: choice-typed; 1 if10; 2 if9; 3 if8; 4 if7; 5 if6; 6 if5; 7 if4; 8 if3; 9 if2; 10 if1; 11 word-at; 16 args
+    (λ c. (search ifs-of depth 20 fits 4000, c .before .before .before .before .before .before .before .before .before .before .before .before .before .before .before .before .pre .1))
+    -- returns-11: if10; 1 if9; 2 if8; 3 if7; 4 if6; 5 if5; 6 if4; 7 if3; 8 if2; 9 if1; 10 word-at; 15 args
+    (λ c. (search ifs-of depth 20 fits 4000, c .before .before .before .before .before .before .before .before .before .before .before .before .before .before .before .pre .1)))

@@ -18,7 +18,9 @@ type-at-spec = tie.close (tie.spec
     (λ c. search (type-is, ifs-of))
     -- returns-5
     (λ c. search (type-is, ifs-of) depth 8)
+    -- returns-6
+    (λ c. search (type-is, ifs-of) depth 9)
     -- word-at-requires
     (λ c κs. search needs)
-    -- returns-6
+    -- returns-7
     (λ c. search type-of-application))
