@@ -21,7 +21,7 @@ infix 50 _⊆_
 abbrev pub _⊆_ : List Tree → List Tree → Type 0
 Δ ⊆ Γ = (t : Tree) → t ∈ Δ → t ∈ Γ
 
--- classes, by the table of records: types are kinds 3 to 6, terms 7 and 9 to 13, formulas 14 to 21
+-- classes, by the table of records: types are kinds 3 to 6, terms 7, 9 to 13 and 23, formulas 14 to 21
 abbrev pub IsType : Tree → Type 0
 IsType t = class (kindOf t) ≡ typeᶜ
 

@@ -45,7 +45,7 @@ type-record rd (suc j) =
     let k = rd (suc j) 0 in
     rw (tree-step rd (suc j) (omega arith))
     (pick rd k 7 _ _ (own 1) (pick rd k 9 _ _ (own 2) (pick rd k 10 _ _ (own 3) (pick rd k 11 _ _ (own 3)
-    (pick rd k 12 _ _ (own 2) (pick rd k 13 _ _ (first-record rd (child rd (suc j) 2)) (0, sym (tree-zero rd))))))))
+    (pick rd k 12 _ _ (own 2) (pick rd k 13 _ _ (first-record rd (child rd (suc j) 2)) (pick rd k 23 _ _ (own 2) (0, sym (tree-zero rd)))))))))
 
 -- a type of kind 4 is a set's
 set-type : (rd : Reader) (j : ℕ) → kindOf (typeOf (tree rd j)) ≡ 4 → typeOf (tree rd j) ≡ setᵗ (firstOf (typeOf (tree rd j)))

@@ -43,7 +43,7 @@ use Rattle.translation_meaning.specs.Accepted.{obligation-read, proof-re
 use Rattle.translation_meaning.specs.Premises.{proves-premised}
 use Rattle.translation_meaning.specs.Length.{length-most}
 
--- a kind of 1 to 22, or 14, is no rule of a derivation
+-- a kind of the table, or 14, is no rule of a derivation
 low-kind : (k : ℕ) → k < 64 → isRule 2 k ≡ false
 unfolding isRule between ifEq ifLt
 low-kind k h = simp (isRule, between, ifEq, ifLt, lt-ltb k 64 h)

@@ -92,10 +92,17 @@ word-part mode rd i k w c s e h p =
     (λ r q. let b = role-word k w (omega arith) in subst (λ (c : ℕ). Part rd i w c) q (term-part mode rd i s k e w (b .0) (b .1) r))
     (λ r q. let b = role-word k w (omega arith) in subst (λ (c : ℕ). Part rd i w c) q (formula-part mode rd i s k e w (b .0) (b .1) r))
 
--- the last kind of a term is an application, where the choice is passed
+-- the last kind of a term is an application
+more-than : {a k : ℕ} → a ≤ k → (k ≡ a → ⊥) → suc a ≤ k
+more-than low differ = omega arith
+
+last-of-five : (k : ℕ) → 9 ≤ k → k ≤ 13 → (k ≡ 9 → ⊥) → (k ≡ 10 → ⊥) → (k ≡ 11 → ⊥) → (k ≡ 12 → ⊥) → k ≡ 13
+last-of-five k low high no9 no10 no11 no12 = omega arith
+
 last-term : (k : ℕ) → class k ≡ 4 → (k ≡ 7 → ⊥) → (k ≡ 9 → ⊥) → (k ≡ 10 → ⊥) → (k ≡ 11 → ⊥) → (k ≡ 12 → ⊥) → (k ≡ 23 → ⊥) → k ≡ 13
 last-term k e no7 no9 no10 no11 no12 no23 =
-    ⊎-elim (λ range. let no8 = range .2 in omega (arith, range .0, range .1)) (λ choice. absurd (no23 choice)) (term-class k e)
+    ⊎-elim (λ range. last-of-five k (more-than (more-than (range .0) no7) (range .2)) (range .1) no9 no10 no11 no12) (λ choice. absurd (no23 choice))
+    (term-class k e)
 
 -- types, terms and formulas are weighed
 sort-weighed : (k : ℕ) → 3 ≤ class k → class k ≤ 5 → isWeighed k ≡ true
