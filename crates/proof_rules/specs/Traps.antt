@@ -57,6 +57,17 @@ constantInChoice =
     r 2 83 0 0 ∷ r 3 1 0 0 ∷ r 4 2 0 0 ∷ r 2 115 0 0 ∷ r 7 3 4 0 ∷ r 23 5 2 0 ∷ r 20 6 6 0 ∷
     r 9 0 3 0 ∷ r 20 8 8 0 ∷ r 19 3 9 0 ∷ r 18 10 0 0 ∷ r 1 7 0 0 ∷ []
 
+-- hypothesis ∀x·choice(x)=choice(x), record 11, or another; goal choice(s)=choice(s), and t beside s
+abbrev choiceUnderAll : Words → List Words
+choiceUnderAll hypothesis =
+    r 1 15 15 14 ∷
+    r 2 83 0 0 ∷ r 3 1 0 0 ∷ r 4 2 0 0 ∷ r 2 115 0 0 ∷ r 7 3 4 0 ∷ r 2 116 0 0 ∷ r 7 3 6 0 ∷
+    r 9 0 3 0 ∷ r 23 8 2 0 ∷ r 20 9 9 0 ∷ r 19 3 10 0 ∷ r 23 5 2 0 ∷ r 20 12 12 0 ∷ r 18 13 0 0 ∷ hypothesis ∷ []
+
+-- ∀x·choice(x)=choice(x) at record t, said to be choice(s)=choice(s)
+abbrev choiceAt : Words → List Words
+choiceAt t = r 1 7 22 15 ∷ r 1 13 0 0 ∷ r 34 16 0 0 ∷ r 1 13 0 0 ∷ t ∷ r 1 11 0 19 ∷ r 1 17 0 0 ∷ r 44 20 21 0 ∷ []
+
 -- goal ⊥, and a record made of s of type Set(S)
 abbrev besideFalse : Words → List Words
 besideFalse made =
@@ -86,7 +97,10 @@ traps =
     (answer 0 0 0 1) ∷
     -- SET5 "as a hypothesis like any other"
     trap choiceAxiom byChoiceAxiom (answer 0 0 0 7) ∷
-    -- "freshness ... take it in": s is in choice(s)
+    -- "closedness, replacement, freshness ... take it in": choice(x) is open, choice(s) is choice(x) at s and not at t, s is in choice(s)
+    trap (choiceUnderAll (r 1 10 0 0)) (choiceAt (r 1 5 0 18)) (answer 11 1 0 0) ∷
+    trap (choiceUnderAll (r 1 11 0 0)) (choiceAt (r 1 5 0 18)) (answer 0 0 0 2) ∷
+    trap (choiceUnderAll (r 1 11 0 0)) (choiceAt (r 1 7 0 18)) (answer 15 2 22 1) ∷
     trap constantInChoice
     (r 1 9 21 12 ∷
     r 20 5 5 0 ∷ r 18 13 0 0 ∷ r 1 14 0 0 ∷ r 35 15 0 0 ∷ r 1 13 0 0 ∷ r 1 5 0 17 ∷ r 1 11 0 18 ∷ r 1 16 0 0 ∷ r 43 19 20 0 ∷ [])
