@@ -94,25 +94,31 @@ static const words branches[] = {{1, 11, 16, 5}, {1, 3, 0, 0}, {33, 0, 0, 0}, {3
 
 /* Axiom SET5, ∃x·(x ∈ s) ⇒ choice(s) ∈ s for all types, as a hypothesis, a ∈ s as another; the goal choice(s) ∈ s. */
 static const words choice_axiom[] = {
-    {1, 27, 27, 25}, {2, 83, 0, 0}, {3, 1, 0, 0}, {4, 2, 0, 0}, {2, 97, 0, 0}, {7, 2, 4, 0}, {2, 115, 0, 0}, {7, 3, 6, 0},
-    {23, 7, 2, 0}, {6, 0, 0, 0}, {4, 9, 0, 0}, {9, 0, 9, 0}, {9, 1, 10, 0}, {9, 0, 10, 0}, {21, 11, 12, 0}, {18, 14, 0, 0},
-    {19, 9, 15, 0}, {18, 16, 0, 0}, {23, 13, 9, 0}, {21, 18, 13, 0}, {17, 17, 19, 0}, {19, 10, 20, 0}, {22, 1, 21, 0}, {21, 5, 7, 0},
-    {21, 8, 7, 0}, {18, 24, 0, 0}, {1, 23, 0, 0}, {1, 22, 0, 26}};
+    {1, 27, 27, 25}, {2, 83, 0, 0},  {3, 1, 0, 0},   {4, 2, 0, 0},    {2, 97, 0, 0},   {7, 2, 4, 0},    {2, 115, 0, 0},  {7, 3, 6, 0},
+    {23, 7, 2, 0},   {6, 0, 0, 0},   {4, 9, 0, 0},   {9, 0, 9, 0},    {9, 1, 10, 0},   {9, 0, 10, 0},   {21, 11, 12, 0}, {18, 14, 0, 0},
+    {19, 9, 15, 0},  {18, 16, 0, 0}, {23, 13, 9, 0}, {21, 18, 13, 0}, {17, 17, 19, 0}, {19, 10, 20, 0}, {22, 1, 21, 0},  {21, 5, 7, 0},
+    {21, 8, 7, 0},   {18, 24, 0, 0}, {1, 23, 0, 0},  {1, 22, 0, 26}};
 
 static const words by_choice_axiom[] = {
-    {1, 44, 71, 27}, {9, 0, 2, 0}, {9, 1, 3, 0}, {9, 0, 3, 0}, {21, 28, 29, 0}, {18, 31, 0, 0}, {19, 2, 32, 0}, {18, 33, 0, 0},
-    {23, 30, 2, 0}, {21, 35, 30, 0}, {17, 34, 36, 0}, {19, 3, 37, 0}, {21, 28, 7, 0}, {18, 39, 0, 0}, {19, 2, 40, 0}, {18, 41, 0, 0},
-    {17, 42, 24, 0}, {18, 23, 0, 0}, {1, 23, 0, 0}, {34, 45, 0, 0}, {1, 44, 0, 0}, {1, 5, 0, 47}, {1, 41, 0, 48}, {1, 46, 0, 0},
-    {44, 49, 50, 0}, {18, 42, 0, 0}, {1, 52, 0, 0}, {1, 51, 0, 0}, {38, 53, 54, 0}, {1, 24, 0, 0}, {34, 56, 0, 0}, {1, 43, 0, 0},
-    {1, 57, 0, 0}, {1, 55, 0, 59}, {41, 58, 60, 0}, {1, 43, 0, 0}, {1, 7, 0, 62}, {1, 38, 0, 63}, {1, 61, 0, 0}, {44, 64, 65, 0},
-    {1, 2, 0, 0}, {1, 38, 0, 67}, {1, 22, 0, 68}, {1, 66, 0, 0}, {45, 69, 70, 0}};
+    {1, 44, 71, 27}, {9, 0, 2, 0},    {9, 1, 3, 0},    {9, 0, 3, 0},   {21, 28, 29, 0}, {18, 31, 0, 0}, {19, 2, 32, 0}, {18, 33, 0, 0},
+    {23, 30, 2, 0},  {21, 35, 30, 0}, {17, 34, 36, 0}, {19, 3, 37, 0}, {21, 28, 7, 0},  {18, 39, 0, 0}, {19, 2, 40, 0}, {18, 41, 0, 0},
+    {17, 42, 24, 0}, {18, 23, 0, 0},  {1, 23, 0, 0},   {34, 45, 0, 0}, {1, 44, 0, 0},   {1, 5, 0, 47},  {1, 41, 0, 48}, {1, 46, 0, 0},
+    {44, 49, 50, 0}, {18, 42, 0, 0},  {1, 52, 0, 0},   {1, 51, 0, 0},  {38, 53, 54, 0}, {1, 24, 0, 0},  {34, 56, 0, 0}, {1, 43, 0, 0},
+    {1, 57, 0, 0},   {1, 55, 0, 59},  {41, 58, 60, 0}, {1, 43, 0, 0},  {1, 7, 0, 62},   {1, 38, 0, 63}, {1, 61, 0, 0},  {44, 64, 65, 0},
+    {1, 2, 0, 0},    {1, 38, 0, 67},  {1, 22, 0, 68},  {1, 66, 0, 0},  {45, 69, 70, 0}};
+
+/* The hypothesis choice(s) = a, the goal a = choice(s): what the translation writes has a variable of the choice's type. */
+static const words choice_equals[] = {{1, 12, 12, 11}, {2, 83, 0, 0}, {3, 1, 0, 0},  {4, 2, 0, 0},  {2, 97, 0, 0},  {7, 2, 4, 0}, {2, 115, 0, 0},
+                                      {7, 3, 6, 0},    {23, 7, 2, 0}, {20, 8, 5, 0}, {20, 5, 8, 0}, {18, 10, 0, 0}, {1, 9, 0, 0}};
+
+static const words turned[] = {{1, 2, 14, 12}, {1, 9, 0, 0}, {36, 13, 0, 0}};
 
 /* The hypothesis choice(s) ∈ s as a cut formula with another own type. */
-static const words choice_in_set[] = {{1, 9, 9, 8},   {2, 83, 0, 0}, {3, 1, 0, 0}, {4, 2, 0, 0},  {2, 115, 0, 0},
-                                      {7, 3, 4, 0},   {23, 5, 2, 0}, {21, 6, 5, 0}, {18, 7, 0, 0}, {1, 7, 0, 0}};
+static const words choice_in_set[] = {{1, 9, 9, 8}, {2, 83, 0, 0}, {3, 1, 0, 0},  {4, 2, 0, 0},  {2, 115, 0, 0},
+                                      {7, 3, 4, 0}, {23, 5, 2, 0}, {21, 6, 5, 0}, {18, 7, 0, 0}, {1, 7, 0, 0}};
 
-static const words own_type_dropped[] = {{1, 8, 17, 9}, {23, 5, 3, 0}, {21, 10, 5, 0}, {66, 0, 0, 0}, {66, 0, 0, 0},
-                                         {1, 13, 0, 0}, {1, 12, 0, 14}, {1, 11, 0, 0}, {67, 16, 15, 0}};
+static const words own_type_dropped[] = {{1, 8, 17, 9}, {23, 5, 3, 0},  {21, 10, 5, 0}, {66, 0, 0, 0},   {66, 0, 0, 0},
+                                         {1, 13, 0, 0}, {1, 12, 0, 14}, {1, 11, 0, 0},  {67, 16, 15, 0}};
 
 #define BASE(derivation, obligation, second) {derivation, obligation, COUNT(obligation), second, COUNT(second)}
 
@@ -126,10 +132,12 @@ static const struct base m1 = BASE(false, medoc, medoc_again);
 static const struct base m3 = BASE(true, medoc, medoc_again);
 static const struct base t1 = BASE(false, from_true, branches);
 static const struct base c1 = BASE(false, choice_axiom, by_choice_axiom);
-static const struct base c4 = BASE(true, choice_in_set, own_type_dropped);
+static const struct base c4 = BASE(false, choice_equals, turned);
+static const struct base c5 = BASE(true, choice_in_set, own_type_dropped);
 
 /* D1 to D12 of paper 01, derivations, and both spellings of an accent: E CC 81 in a derivation, the two Médocs, another name for one of them; a proof with
- * branches, and one refused in its second branch; the choice operator: SET5 used, another own type, a kind that is none, the own type dropped in a derivation. */
+ * branches, and one refused in its second branch; the choice operator: SET5 used, another own type, a kind that is none,
+ * a choice on the left of =, the own type dropped in a derivation. */
 static const struct sample samples[] = {
     {"d1", &d1, 0, {0}, 0, {0, 0, 0, 2}},
     {"d2", &d1, 6, {1, 11, 12, 6}, 0, {12, 2, 12, 0}},
@@ -169,7 +177,8 @@ static const struct sample samples[] = {
     {"c1", &c1, 0, {0}, 0, {0, 0, 0, 7}},
     {"c2", &c1, 35, {23, 30, 3, 0}, 0, {10, 2, 35, 0}},
     {"c3", &c1, 35, {24, 30, 2, 0}, 0, {3, 2, 35, 0}},
-    {"c4", &c4, 0, {0}, 0, {0, 0, 0, 3}},
+    {"c4", &c4, 0, {0}, 0, {0, 0, 0, 1}},
+    {"c5", &c5, 0, {0}, 0, {0, 0, 0, 3}},
 };
 
 static void put_record(uint8_t *bytes, const words record)
