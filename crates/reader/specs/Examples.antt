@@ -13,7 +13,7 @@ use Rattle.reader.specs.Accents.{letterIn, composed}
 use Rattle.reader.specs.Names.{nameOf, nameSpace, bytesOf, recordBytes, trimmed, nameBytes, isLetter, isDigitOrUnderscore, single, accented, characters}
 use Rattle.reader.specs.Names.{name, hasBytes, startsWell, isName, sameName, takenBelow, nameTaken}
 use Rattle.reader.specs.Variables.{binders, isIndex, replaced, bears, indexBelow, indicesBelow, typeVariableBelow, typesBelow, isClosed, isConstant, occurs, instance}
-use Rattle.reader.specs.Typing.{typeOf, sameAll, pairTyped, productTyped, powersetTyped, choiceTyped, equalTyped, memberTyped, forAllTyped, constantTyped, signature, functionTyped, applicationTyped, isTyped}
+use Rattle.reader.specs.Typing.{typeOf, sameAll, pairTyped, productTyped, powersetTyped, choiceTyped, equalTyped, memberTyped, forAllTyped, constantTyped, signature, functionTyped, applicationTyped, typingOf, isTyped}
 use Rattle.reader.specs.Answers.{placed, orAnswer, firstFault}
 use Rattle.reader.specs.Records.{inRange, rangeAt, rangesFit, mayBeZero, wantedClass, itemClass, hasClass, itemsHaveClass, refers, refersAt}
 use Rattle.reader.specs.Records.{referencesFit, nameLengthFits, typesFit, argumentsFit, itemChainsFit, chainsFit, mostWeight, weightFits, nameSpelled}
@@ -106,7 +106,7 @@ unfolding typeOf sameAll pairTyped productTyped powersetTyped equalTyped memberT
 openTyping1 = 0
 
 unfoldable pub openTyping2 : ℕ
-unfolding applicationTyped choiceTyped isTyped
+unfolding applicationTyped choiceTyped typingOf isTyped
 openTyping2 = 0
 
 unfoldable pub openTyping : ℕ

@@ -79,16 +79,20 @@ applicationTyped rd i =
     (sameAll (getD (itemTrees rd (lower rd i 2)) 0 leaf ∷ map typeOf (itemTrees rd (lower rd i 3)))
     (map (instance (drop 1 (itemTrees rd (lower rd i 2)))) (signature rd (lower rd i 1))))
 
+-- what kind k asks of the types of record i
+unfoldable pub typingOf : ℕ → Reader → ℕ → Bool
+typingOf k rd i =
+    ifEq k (kinds .constant) (constantTyped (tree rd i))
+    (ifEq k (kinds .function) (functionTyped rd i)
+    (ifEq k (kinds .pair) (pairTyped (tree rd i))
+    (ifEq k (kinds .product) (productTyped (tree rd i))
+    (ifEq k (kinds .powerset) (powersetTyped (tree rd i))
+    (ifEq k (kinds .application) (applicationTyped rd i)
+    (ifEq k (kinds .forAll) (forAllTyped (tree rd i))
+    (ifEq k (kinds .equal) (equalTyped (tree rd i))
+    (ifEq k (kinds .member) (memberTyped (tree rd i))
+    (ifEq k (kinds .choice) (choiceTyped (tree rd i)) true)))))))))
+
 -- record i is typed as its kind asks
 unfoldable pub isTyped : Reader → ℕ → Bool
-isTyped rd i =
-    ifEq (rd i 0) (kinds .constant) (constantTyped (tree rd i))
-    (ifEq (rd i 0) (kinds .function) (functionTyped rd i)
-    (ifEq (rd i 0) (kinds .pair) (pairTyped (tree rd i))
-    (ifEq (rd i 0) (kinds .product) (productTyped (tree rd i))
-    (ifEq (rd i 0) (kinds .powerset) (powersetTyped (tree rd i))
-    (ifEq (rd i 0) (kinds .application) (applicationTyped rd i)
-    (ifEq (rd i 0) (kinds .forAll) (forAllTyped (tree rd i))
-    (ifEq (rd i 0) (kinds .equal) (equalTyped (tree rd i))
-    (ifEq (rd i 0) (kinds .member) (memberTyped (tree rd i))
-    (ifEq (rd i 0) (kinds .choice) (choiceTyped (tree rd i)) true)))))))))
+isTyped rd i = typingOf (rd i 0) rd i

@@ -14,7 +14,7 @@ use Rattle.reader.specs.Trees.{Tree, tree, lower, child, atom}
 use Rattle.reader.specs.Chains.{linked, items, itemTrees}
 use Rattle.reader.specs.TreeLaws.{below, lower-below, child-below, tree-zero, tree-step, linked-zero, linked-step, items-zero, items-step}
 use Rattle.reader.specs.Names.{nameOf, nameSpace, recordBytes, nameBytes, characters, name, hasBytes, isName, sameName, takenBelow, nameTaken}
-use Rattle.reader.specs.Typing.{signature, functionTyped, applicationTyped, isTyped}
+use Rattle.reader.specs.Typing.{signature, functionTyped, applicationTyped, typingOf, isTyped}
 use Rattle.reader.specs.Records.{inRange, rangeAt, mayBeZero, wantedClass, itemClass, hasClass, itemsHaveClass, refers, refersAt, nameLengthFits, typesFit}
 use Rattle.reader.specs.Records.{argumentsFit, itemChainsFit, weightFits, nameSpelled, nameIsFree, typingFits}
 use Rattle.reader_laws.specs.Scan.{every-head}
@@ -223,7 +223,7 @@ module _ (rd other : Reader) (m : ℕ) (agree : (i w : ℕ) → i ≤ m → rd i
       rw (e1, e2, e3, e4)
 
   pub typed-agrees : (i : ℕ) → i ≤ m → isTyped rd i ≡ isTyped other i
-  unfolding isTyped
+  unfolding isTyped typingOf
   typed-agrees i h = rw (agree i 0 h, tree-agrees i h, function-typed-agrees i h, application-typed-agrees i h)
 
   -- names

@@ -14,7 +14,7 @@ use Rattle.reader.specs.Chains.{itemTrees}
 use Rattle.reader.specs.Variables.{typesBelow, instance}
 use Rattle.reader.specs.TreeLaws.{tree-zero, tree-step, same-equal, same-self}
 use Rattle.reader.specs.Typing.{typeOf, sameAll, pairTyped, productTyped, powersetTyped, choiceTyped, equalTyped, memberTyped, forAllTyped}
-use Rattle.reader.specs.Typing.{constantTyped, signature, functionTyped, applicationTyped, isTyped}
+use Rattle.reader.specs.Typing.{constantTyped, signature, functionTyped, applicationTyped, typingOf, isTyped}
 use Rattle.reader_laws.specs.Scan.{both-parts, both-join}
 use Rattle.reader.specs.Notions.{TypesBelow}
 use Rattle.reader_laws.specs.NotionLaws.{every-in, every-out, types-in, types-out, bears-in, bears-out}
@@ -85,19 +85,6 @@ unfolding sameAll
 same-all [] = refl
 same-all (t ∷ ts) = simp (sameAll, same-self t) (same-all ts)
 
--- the test of kind k
-typingOf : ℕ → Reader → ℕ → Bool
-typingOf k rd i =
-    ifEq k 7 (constantTyped (tree rd i))
-    (ifEq k 8 (functionTyped rd i)
-    (ifEq k 10 (pairTyped (tree rd i))
-    (ifEq k 11 (productTyped (tree rd i))
-    (ifEq k 12 (powersetTyped (tree rd i))
-    (ifEq k 13 (applicationTyped rd i)
-    (ifEq k 19 (forAllTyped (tree rd i))
-    (ifEq k 20 (equalTyped (tree rd i))
-    (ifEq k 21 (memberTyped (tree rd i)) (ifEq k 23 (choiceTyped (tree rd i)) true)))))))))
-
 -- An application's words are references to smaller records, or 0.
 abbrev pub Lowered : Reader → ℕ → Type 0
 Lowered rd i = (lower rd i 1 ≡ rd i 1) × (lower rd i 2 ≡ rd i 2) × (lower rd i 3 ≡ rd i 3)
@@ -126,7 +113,7 @@ applied-out rd i l a =
 -- From the test to the facts.
 module _ (rd : Reader) (i : ℕ) (lowered : rd i 0 ≡ 13 → Lowered rd i) (h : isTyped rd i ≡ true) where
   tested : (k : ℕ) → rd i 0 ≡ k → typingOf k rd i ≡ true
-  unfolding isTyped typingOf
+  unfolding isTyped
   tested k e = subst (λ (k : ℕ). typingOf k rd i ≡ true) e h
 
   -- the kind of a record whose tree is known
@@ -225,7 +212,7 @@ module _ (rd : Reader) (i : ℕ) (pos : 0 < i) (lowered : rd i 0 ≡ 13 → Lowe
       go false e = g
 
   pub typed-out : isTyped rd i ≡ true
-  unfolding isTyped functionTyped
+  unfolding isTyped typingOf functionTyped
   typed-out =
       passing (rd i 0) 7 _ _ constant-out
       (passing (rd i 0) 8 _ _ (λ e. every-out (typesBelow (rd i 2)) (TypesBelow (rd i 2)) (λ τ b. types-out b) (signature rd i) (t .function e))

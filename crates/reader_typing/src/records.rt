@@ -21,36 +21,17 @@ pub fn is_typed(
     requires { ⌜ Numbered (word (now obligation) (now second) m) (now numbers) (length (now numbers)) × Zeros (now seen) ⌝ }
     ensures { λ r. ⌜ (r ≡ isTyped (word (now (obligation .entry)) (now (second .entry)) m) i) × Zeros (now (seen .exit)) ⌝ }
 {
-    let k = words::word_at(obligation, second, m, i, 0);
-    if k == 7 {
-        return types::constant_typed(obligation, second, m, i);
+    match words::word_at(obligation, second, m, i, 0) {
+        7 => types::constant_typed(obligation, second, m, i),
+        8 => applications::function_typed(obligation, second, m, seen, i),
+        10 => types::pair_typed(obligation, second, m, numbers, i),
+        11 => types::product_typed(obligation, second, m, numbers, i),
+        12 => types::powerset_typed(obligation, second, m, numbers, i),
+        13 => applications::application_typed(obligation, second, m, numbers, seen, i),
+        19 => types::for_all_typed(obligation, second, m, numbers, i),
+        20 => types::equal_typed(obligation, second, m, numbers, i),
+        21 => types::member_typed(obligation, second, m, numbers, i),
+        23 => types::choice_typed(obligation, second, m, numbers, i),
+        _ => true,
     }
-    if k == 8 {
-        return applications::function_typed(obligation, second, m, seen, i);
-    }
-    if k == 10 {
-        return types::pair_typed(obligation, second, m, numbers, i);
-    }
-    if k == 11 {
-        return types::product_typed(obligation, second, m, numbers, i);
-    }
-    if k == 12 {
-        return types::powerset_typed(obligation, second, m, numbers, i);
-    }
-    if k == 13 {
-        return applications::application_typed(obligation, second, m, numbers, seen, i);
-    }
-    if k == 19 {
-        return types::for_all_typed(obligation, second, m, numbers, i);
-    }
-    if k == 20 {
-        return types::equal_typed(obligation, second, m, numbers, i);
-    }
-    if k == 21 {
-        return types::member_typed(obligation, second, m, numbers, i);
-    }
-    if k == 23 {
-        return types::choice_typed(obligation, second, m, numbers, i);
-    }
-    true
 }
