@@ -30,7 +30,7 @@ fn named(book: &Book, number: u32) -> (Vec<u32>, Vec<(u32, bool)>) {
         PAIR_TYPE => (vec![a, b], vec![]),
         BOUND => (vec![b], vec![]),
         PAIR | PRODUCT => (vec![c], vec![(a, false), (b, false)]),
-        POWERSET => (vec![b], vec![(a, false)]),
+        POWERSET | CHOICE => (vec![b], vec![(a, false)]),
         APPLICATION => {
             let arguments = chain(book, c).into_iter().map(|r| (r, false));
             (chain(book, b), arguments.collect())
