@@ -4,6 +4,7 @@
 use super::expr::*;
 use super::proofs::{Draft, Shape};
 use super::refute::Script;
+use super::set5;
 use super::world::{Scope, World};
 use super::writer::Tree;
 use crate::arena::Mixing;
@@ -41,7 +42,13 @@ fn core(world: &mut World) -> Core {
     let ty = world.closed_type(1);
     let t = world.term(&ty, &Scope::default(), 1);
     let u = world.term(&ty, &Scope::default(), 1);
+    let set5 = world.choices > 0 && world.rng.chance(25);
     let (typed, p, yes, no) = match world.rng.below(9) {
+        _ if set5 => {
+            let (mut typed, chosen, yes) = set5::derivable(world);
+            typed.push(not(chosen.clone()));
+            (typed, chosen, yes, br3())
+        }
         0 => (vec![bottom()], bottom(), br3(), node(68, vec![], vec![])),
         1 => (vec![not(top())], top(), node(68, vec![], vec![]), br3()),
         2 => {
@@ -484,6 +491,9 @@ fn forwards(world: &mut World, shape: Shape) -> Draft {
         10..=30 => 4,
         _ => 6,
     };
+    if world.choices > 0 && world.rng.chance(35) {
+        hypotheses.extend(set5::hypotheses(world));
+    }
     let (goal, script) = derive(world, &mut hypotheses, depth);
     if world.rng.chance(20) && !script.uses_br1() {
         let h = world.polymorphic(shape.depth);
@@ -597,6 +607,11 @@ fn derive_with(
 
 fn derive_at_once(world: &mut World, members: &mut [Expr]) -> (Expr, Script) {
     let br6 = node(68, vec![], vec![]);
+    if world.rng.chance(30) {
+        if let Some(found) = set5::derive_from(world, members) {
+            return found;
+        }
+    }
     match world.rng.below(6) {
         0 => (not(bottom()), br6),
         1 => (top(), br6),

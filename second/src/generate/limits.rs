@@ -1,10 +1,10 @@
 //! The edges, each limit at its edge and one past it, with the answers that the limits give.
 
 use super::expr::*;
-use super::gadgets::{weigh_one, Bench, Place};
+use super::gadgets::{weigh_one, Bench, Place, WEIGHT_SORTS};
 use super::proof_limits::proof_limits;
 use super::rng::Rng;
-use super::root_damage::odd_hypothesis;
+use super::root_damage::{odd_hypothesis, ODD_HYPOTHESES};
 use super::spelling::{self, accent_of, accents};
 use super::world::World;
 use super::writer::{Tree, Writer};
@@ -155,7 +155,7 @@ fn with_records(
 
 fn weights(list: &mut Vec<Limit>, kind: Second, place: Place) {
     let most = place.most_weight();
-    for sort in 0..7 {
+    for sort in 0..WEIGHT_SORTS {
         for weight in [most - 1, most, most + 1] {
             let refusal = if weight > most { 7 } else { 0 };
             let label = format!("weight {weight} of sort {sort}");
@@ -496,7 +496,7 @@ fn hypotheses(list: &mut Vec<Limit>, kind: Second) {
             list.push(limit(kind, label, base.files(root), answer));
         }
     }
-    for which in 0..16 {
+    for which in 0..ODD_HYPOTHESES {
         let mut base = base();
         let mut rng = Rng::new(0);
         let mut bench = base.bench(&mut rng, Place::Obligation);
