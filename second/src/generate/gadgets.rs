@@ -231,7 +231,7 @@ impl Bench<'_> {
     }
 
     /// The last record with one word set in place of itself: a symbol's name must not be taken by the right one.
-    fn written_again(&mut self, record: u32, word: usize, value: u32) -> u32 {
+    pub fn written_again(&mut self, record: u32, word: usize, value: u32) -> u32 {
         let mut words = self.w.records[record as usize - 1].words();
         words[word] = value;
         self.w.records.pop();

@@ -5,6 +5,7 @@
 
 pub mod big;
 pub mod byte_damage;
+pub mod choice_limits;
 pub mod choices;
 pub mod derivations;
 pub mod expect;
