@@ -356,7 +356,7 @@ impl Maker<'_> {
         match terms.is_empty() || self.world.rng.chance(20) {
             true => {
                 let ty = self.world.closed_type(1);
-                self.world.term(&ty, &Scope::default(), 1).plain()
+                self.world.term(&ty, &Scope::default(), 2).plain()
             }
             false => self.world.rng.pick(&terms).clone(),
         }
@@ -571,7 +571,7 @@ fn derive(world: &mut World, members: &mut Vec<Expr>, depth: usize) -> (Expr, Sc
         10 | 11 => derive_all(world, members, down),
         12 | 13 => {
             let (quantified, script) = derive_all(world, members, down);
-            let term = world.term(&quantified.child(0), &Scope::default(), 1);
+            let term = world.term(&quantified.child(0), &Scope::default(), 2);
             let goal = quantified.body().put(&term);
             (goal, node(78, vec![quantified, term], vec![script]))
         }
@@ -634,7 +634,7 @@ fn derive_at_once(world: &mut World, members: &mut [Expr]) -> (Expr, Script) {
 
 /// A quantified goal, by a constant of its own.
 fn derive_all(world: &mut World, members: &mut Vec<Expr>, depth: usize) -> (Expr, Script) {
-    let ty = world.closed_type(1);
+    let ty = world.quantified_type(&Scope::default());
     let c = constant(world.new_reserved(ty.clone()));
     let mut scope = Scope::default();
     scope.bound.push(ty.clone());
@@ -644,7 +644,11 @@ fn derive_all(world: &mut World, members: &mut Vec<Expr>, depth: usize) -> (Expr
             (q, script)
         }
         1 => {
-            let t = world.term(&ty, &scope, 2);
+            let x = bound(0, ty.clone());
+            let t = match ty.is(SET_TYPE) && world.choices > 0 {
+                true => choice(x, ty.child(0)),
+                false => world.term(&ty, &scope, 2),
+            };
             (equal(t.clone(), t), node(80, vec![], vec![]))
         }
         _ => {

@@ -143,17 +143,13 @@ fn negated(world: &mut World, depth: usize, variables: u32) -> (Expr, Script) {
 
 /// ¬∀x·(P ⇒ P), ¬∀x·x=x or ¬∀x·choice(x)=choice(x), with a constant of its own.
 fn existential(world: &mut World, depth: usize, variables: u32) -> (Expr, Script) {
-    let chosen = world.rng.chance(world.choices);
-    let ty = match chosen {
-        true => set_type(world.closed_type(1)),
-        false => world.closed_type(1),
-    };
+    let ty = world.quantified_type(&Scope::default());
     let c = constant(world.new_reserved(ty.clone()));
     let mut scope = Scope::polymorphic(variables);
     scope.bound.push(ty.clone());
     if world.rng.chance(30) {
         let x = bound(0, ty.clone());
-        let t = match chosen {
+        let t = match ty.is(SET_TYPE) && world.choices > 0 {
             true => choice(x, ty.child(0)),
             false => x,
         };

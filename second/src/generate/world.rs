@@ -317,7 +317,7 @@ impl World {
     }
 
     /// Where choices are wanted often a set's type, so that they are made of the variable.
-    fn quantified_type(&mut self, scope: &Scope) -> Expr {
+    pub fn quantified_type(&mut self, scope: &Scope) -> Expr {
         let ty = self.ty(scope.variables, 1);
         match self.rng.chance(2 * self.choices) {
             true => set_type(ty),
