@@ -362,7 +362,7 @@ fn freshness(list: &mut Vec<Limit>) {
                 list,
                 &k,
                 label,
-                (&[member.clone()], &k.every()),
+                (std::slice::from_ref(&member), &k.every()),
                 script,
                 refusal,
             );
