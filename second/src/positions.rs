@@ -7,7 +7,7 @@ use crate::words::{self, Record};
 use crate::{typing, Answer};
 use std::collections::{BTreeSet, HashMap, HashSet};
 
-/// A place where a choice stands, in the plural where several rules have it.
+/// A place where a choice stands.
 #[derive(Clone, Copy, Debug, PartialEq, Eq, PartialOrd, Ord, Hash)]
 pub enum Position {
     /// In a hypothesis or the goal.
