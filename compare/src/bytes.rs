@@ -37,7 +37,7 @@ pub fn random_records(rng: &mut Rng, most: usize, m: Option<u32>) -> Vec<u8> {
     words.push(rng.below((first + count + 1) as usize) as u32);
     words.push(m.unwrap_or_else(|| rng.below(count as usize + 1) as u32));
     for number in 0..count {
-        words.push(rng.range(1, 22) as u32);
+        words.push(rng.range(1, 23) as u32);
         let below = (first + number + 1) as usize;
         words.extend((0..3).map(|_| match rng.chance(50) {
             true => 0,

@@ -258,6 +258,20 @@ pub fn unequal_types(kind: Second) -> Shape {
     sheet.close("(a) last = of unequal types")
 }
 
+/// Choices whose heavy own type is a copy of the type of their set's elements.
+pub fn heavy_choices(kind: Second) -> Shape {
+    let mut sheet = Sheet::new(kind);
+    sheet.end_obligation();
+    let given = sheet.given;
+    let [elements, own] = [0; 2].map(|_| sheet.doubled_type(given, 10));
+    let set = sheet.w.push(SET_TYPE, elements, 0, 0);
+    let s = sheet.constant(set);
+    while sheet.is_before(sheet.end(1)) {
+        sheet.w.push(CHOICE, s, own, 0);
+    }
+    sheet.close("(a) choices of a heavy own type")
+}
+
 /// Applications to four arguments, each of a heavy type that is a copy of the signature's.
 pub fn applications(kind: Second) -> Shape {
     let mut sheet = Sheet::new(kind);
@@ -622,6 +636,29 @@ pub fn heavy_binders(kind: Second) -> Shape {
     sheet.close("(f) ∀ whose variables bear a copy")
 }
 
+/// ∀ over 800 choices one within the other, about the variable that it binds.
+pub fn deep_choices(kind: Second) -> Shape {
+    let mut sheet = Sheet::new(kind);
+    sheet.end_obligation();
+    let (given, c) = (sheet.given, sheet.c);
+    let set = sheet.w.push(SET_TYPE, given, 0, 0);
+    let types = sheet.w.chain(&[set, given]);
+    let name = sheet.w.name(b"f");
+    let f = sheet.w.push(FUNCTION, types, 0, name);
+    let own = sheet.w.chain(&[set]);
+    let x = sheet.w.push(BOUND, 0, given, 0);
+    let term = (0..800).fold(x, |term, _| {
+        let arguments = sheet.w.push(LINK, term, 0, 0);
+        let s = sheet.w.push(APPLICATION, f, own, arguments);
+        sheet.w.push(CHOICE, s, given, 0)
+    });
+    let body = sheet.w.push(EQUAL, term, c, 0);
+    while sheet.is_before(sheet.end(1)) {
+        sheet.w.push(ALL, given, body, 0);
+    }
+    sheet.close("(f) ∀ over deep choices")
+}
+
 /// 63 binders around a heavy formula, over and over.
 pub fn deep_binders(kind: Second) -> Shape {
     let mut sheet = Sheet::new(kind);
@@ -658,12 +695,13 @@ pub fn heavy_hypotheses(kind: Second) -> Shape {
 
 /// All shapes that are measured for one kind of second file, with at most so many symbols.
 pub fn shapes(kind: Second, symbols: u32) -> Vec<Shape> {
-    let makers: [fn(Second) -> Shape; 20] = [
+    let makers: [fn(Second) -> Shape; 22] = [
         obligation,
         ordinary,
         equal_types,
         equal_types_first,
         unequal_types,
+        heavy_choices,
         applications,
         type_arguments,
         doubled_parameters,
@@ -678,6 +716,7 @@ pub fn shapes(kind: Second, symbols: u32) -> Vec<Shape> {
         heavy_formulas,
         heavy_bodies,
         heavy_binders,
+        deep_choices,
         deep_binders,
     ];
     let mut list: Vec<Shape> = makers.iter().map(|make| make(kind)).collect();

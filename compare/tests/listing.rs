@@ -39,13 +39,13 @@ fn compare_files(what: &str, list: &[Files]) -> Listings {
 /// With the outputs that the vectors give.
 #[test]
 fn vectors_of_listings() {
-    let list = listings(LISTINGS);
+    let list: Vec<_> = LISTINGS.into_iter().flat_map(listings).collect();
     let count = list.len() as u64;
     let compared = compare_all("listing vectors", count, |listings, program, number| {
         let v = &list[number as usize];
         listings.compare_with(program, &v.label, &v.obligation, &v.proof, &v.output);
     });
-    assert_eq!(compared.cases(), 173);
+    assert_eq!(compared.cases(), 173 + 197);
 }
 
 #[test]

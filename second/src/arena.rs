@@ -26,6 +26,7 @@ pub enum Head {
     Pair,
     Product,
     Powerset,
+    Choice,
     Application { function: u32, types: u8 },
     Bottom,
     Top,
@@ -295,7 +296,7 @@ impl Arena {
             }
             Head::All => Node::new(Head::All, &[child(1)]),
             Head::Bound(_) | Head::Bottom => Node::new(node.head, &[]),
-            Head::Powerset | Head::Not => Node::new(node.head, &[child(0)]),
+            Head::Powerset | Head::Choice | Head::Not => Node::new(node.head, &[child(0)]),
             Head::Pair | Head::Product | Head::And | Head::Implies | Head::Equal | Head::In => {
                 Node::new(node.head, &[child(0), child(1)])
             }

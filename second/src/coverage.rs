@@ -1,8 +1,11 @@
 //! How well generated cases cover the refusals and the rules.
 
 use crate::generate::{derivation_case, promised, proof_case, Case};
+use crate::kinds::CHOICE;
+use crate::positions::{self, Position};
 use crate::reader::Second;
-use crate::{check_counting, Answer};
+use crate::{check_counting, words, Answer};
+use std::collections::BTreeMap;
 use std::fmt;
 
 pub const REFUSALS: std::ops::RangeInclusive<usize> = 1..=18;
@@ -31,8 +34,68 @@ pub struct Coverage {
     pub files: [u64; 81],
     /// Its nodes in accepted files.
     pub nodes: [u64; 81],
+    pub choices: Choices,
     /// Cases whose label promised another answer.
     pub broken: Vec<String>,
+}
+
+/// Choice terms in the cases.
+#[derive(Clone, Default)]
+pub struct Choices {
+    /// Accepted files in which a part, a hypothesis or the goal has one.
+    pub accepted: u64,
+    /// Their records in accepted files.
+    pub records: u64,
+    /// Accepted files by where a choice stands.
+    pub positions: BTreeMap<Position, u64>,
+    /// Refused cases with a choice's record anywhere.
+    pub refused: u64,
+    /// Cases by refusal whose record is a choice, or whose node has one in a part.
+    pub at_fault: BTreeMap<u64, u64>,
+}
+
+impl Choices {
+    fn add(&mut self, case: &Case, kind: Second, answer: Answer) {
+        let (obligation, second) = (&case.obligation, &case.second);
+        if !answer.is_accepted() {
+            let has_choice = |file| words::records(file).iter().any(|r| r.kind == CHOICE);
+            self.refused += u64::from(has_choice(obligation) || has_choice(second));
+            if positions::is_at_fault(obligation, second, kind, answer) {
+                *self.at_fault.entry(answer.refusal).or_default() += 1;
+            }
+            return;
+        }
+        let found = positions::of_case(obligation, second, kind);
+        self.accepted += u64::from(found.records > 0);
+        self.records += found.records as u64;
+        for position in found.positions {
+            *self.positions.entry(position).or_default() += 1;
+        }
+    }
+
+    pub fn files(&self, position: Position) -> u64 {
+        self.positions.get(&position).copied().unwrap_or(0)
+    }
+
+    pub fn refusals(&self, refusal: u64) -> u64 {
+        self.at_fault.get(&refusal).copied().unwrap_or(0)
+    }
+}
+
+impl fmt::Display for Choices {
+    fn fmt(&self, f: &mut fmt::Formatter<'_>) -> fmt::Result {
+        let (accepted, records) = (self.accepted, self.records);
+        writeln!(f, "  choices: {accepted} accepted files, {records} records")?;
+        for (position, files) in &self.positions {
+            let name = format!("{position:?}");
+            writeln!(f, "  {name:>18} {files:>7}")?;
+        }
+        writeln!(f, "  choices: {} refused cases; at fault", self.refused)?;
+        for (refusal, cases) in &self.at_fault {
+            writeln!(f, "  {refusal:>7} {cases:>7}")?;
+        }
+        Ok(())
+    }
 }
 
 impl Coverage {
@@ -44,6 +107,7 @@ impl Coverage {
             refusals: [[0; 3]; 20],
             files: [0; 81],
             nodes: [0; 81],
+            choices: Choices::default(),
             broken: Vec::new(),
         }
     }
@@ -67,6 +131,7 @@ impl Coverage {
     pub fn add(&mut self, case: &Case) -> Answer {
         let (answer, rules) = check_counting(&case.obligation, &case.second, self.kind);
         self.cases += 1;
+        self.choices.add(case, self.kind, answer);
         if !answer.is_accepted() {
             self.refusals[answer.refusal as usize][answer.file as usize] += 1;
             return answer;
@@ -124,6 +189,6 @@ impl fmt::Display for Coverage {
             let (files, nodes) = (self.files[rule], self.nodes[rule]);
             writeln!(f, "  {rule:>7} {files:>16} {nodes:>11}")?;
         }
-        Ok(())
+        write!(f, "{}", self.choices)
     }
 }

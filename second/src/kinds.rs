@@ -22,6 +22,7 @@ pub const ALL: u32 = 19;
 pub const EQUAL: u32 = 20;
 pub const IN: u32 = 21;
 pub const ALL_TYPES: u32 = 22;
+pub const CHOICE: u32 = 23;
 
 pub fn is_proof_rule(kind: u32) -> bool {
     (32..=46).contains(&kind)
@@ -40,7 +41,7 @@ pub fn is_type(kind: u32) -> bool {
 }
 
 pub fn is_term(kind: u32) -> bool {
-    kind == CONSTANT || (BOUND..=APPLICATION).contains(&kind)
+    kind == CONSTANT || kind == CHOICE || (BOUND..=APPLICATION).contains(&kind)
 }
 
 /// A formula in the narrow sense: kind 22 is none, as no record may name it as a formula.

@@ -10,6 +10,7 @@ pub mod generate;
 pub mod kinds;
 mod listing;
 pub mod names;
+pub mod positions;
 pub mod proof;
 pub mod reader;
 pub mod replace;

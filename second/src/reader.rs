@@ -164,7 +164,7 @@ impl Book {
 
     /// The next record, tested for refusals 3 to 10 in this order.
     fn read_record(&mut self, record: Record, sort: Sort) -> Result<Item, u64> {
-        let known = (LINK..=ALL_TYPES).contains(&record.kind) || (sort.is_rule)(record.kind);
+        let known = (LINK..=CHOICE).contains(&record.kind) || (sort.is_rule)(record.kind);
         refuse_if(3, !known)?;
         refuse_if(4, !in_range(record))?;
         refuse_if(5, !self.has_right_references(record))?;
@@ -233,7 +233,7 @@ impl Book {
             FUNCTION => types(a) && name(c),
             BOUND => ty(b),
             PAIR | PRODUCT => term(a) && term(b) && ty(c),
-            POWERSET => term(a) && ty(b),
+            POWERSET | CHOICE => term(a) && ty(b),
             APPLICATION => {
                 self.refers(a, |kind| kind == FUNCTION)
                     && types(b)
@@ -245,7 +245,7 @@ impl Book {
             EQUAL | IN => term(a) && term(b),
             ALL_TYPES => formula(b),
             TYPE_VARIABLE | BOTTOM | TOP => true,
-            _ => self.chain(a).is_some() && self.chain(b).is_some(),
+            _ => is_rule(kind) && self.chain(a).is_some() && self.chain(b).is_some(),
         }
     }
 
@@ -360,6 +360,7 @@ impl Book {
             PAIR => pairing(Head::Pair),
             PRODUCT => pairing(Head::Product),
             POWERSET => (two(Head::Powerset).0, self.id(b)),
+            CHOICE => (two(Head::Choice).0, self.id(b)),
             APPLICATION => self.application(record),
             BOTTOM => none(Head::Bottom),
             TOP => none(Head::Top),

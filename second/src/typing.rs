@@ -45,13 +45,16 @@ pub fn is_typed(arena: &Arena, id: Id, signature: Option<&Signature>) -> bool {
         Head::Powerset => {
             element(arena, type_of(0)).is_some() && element(arena, child(1)) == Some(type_of(0))
         }
+        Head::Choice => element(arena, type_of(0)) == Some(child(1)),
         Head::Application { types, .. } => {
             signature.is_some_and(|s| fits_signature(arena, id, types as usize, s))
         }
         Head::All => places_bear(arena, child(1), child(0)),
         Head::Equal => type_of(0) == type_of(1),
         Head::In => element(arena, type_of(1)) == Some(type_of(0)),
-        _ => true,
+        Head::Given(_) | Head::SetType | Head::PairType | Head::TypeVariable(_) => true,
+        Head::Bound(_) | Head::Bottom | Head::Top | Head::AllTypes(_) => true,
+        Head::And | Head::Implies | Head::Not => true,
     }
 }
 

@@ -5,9 +5,15 @@ use crate::Answer;
 use std::path::Path;
 
 /// The files of answers.
-pub const FILES: [&str; 4] = ["readings.txt", "special.txt", "pairs.txt", "u1.txt"];
-/// The file of listings.
-pub const LISTINGS: &str = "u2.txt";
+pub const FILES: [&str; 5] = [
+    "readings.txt",
+    "special.txt",
+    "pairs.txt",
+    "u1.txt",
+    "u3.txt",
+];
+/// The files of listings.
+pub const LISTINGS: [&str; 2] = ["u2.txt", "u2_after_u3.txt"];
 
 pub struct Vector {
     pub label: String,

@@ -3,6 +3,7 @@
 use second::coverage::{rules, Coverage};
 use second::generate::limits::limits;
 use second::generate::{derivation_case, large_cases, promised, proof_case};
+use second::positions::Position;
 use second::reader::Second;
 
 const SEEDS: u64 = 20_000;
@@ -19,6 +20,26 @@ fn covers(kind: Second) {
     assert!(coverage.accepted * 5 > SEEDS && coverage.accepted * 5 < 4 * SEEDS);
     // A proof has no limit of depth: 18 cannot occur there.
     assert!(kind == Second::Derivation || coverage.cases_of(18) == 0);
+    covers_choices(&coverage);
+}
+
+/// Choices stand in every place of accepted files, and are at fault in every way.
+fn covers_choices(coverage: &Coverage) {
+    let choices = &coverage.choices;
+    assert!(choices.accepted * 4 > coverage.accepted);
+    assert!(choices.records > 10_000);
+    for position in Position::ALL {
+        let files = choices.files(position);
+        match position.can_occur(coverage.kind) {
+            true => assert!(files >= WANTED, "{position:?}: {files} accepted files"),
+            false => assert_eq!(files, 0, "{position:?}"),
+        }
+    }
+    assert!(choices.refused * 4 > coverage.cases - coverage.accepted);
+    for refusal in [4, 5, 7, 10, 13, 14, 15, 16] {
+        let cases = choices.refusals(refusal);
+        assert!(cases >= WANTED, "choices at fault, {refusal}: {cases}");
+    }
 }
 
 #[test]
@@ -45,6 +66,7 @@ fn large(kind: Second) {
     assert!(of_hundreds > LARGE_SEEDS);
     assert!(rules(kind).all(|rule| coverage.files[rule] > LARGE_SEEDS / 2));
     assert!((12..=17).all(|refusal| coverage.cases_of(refusal) > 0));
+    assert!(coverage.choices.accepted * 4 > coverage.accepted);
 }
 
 #[test]

@@ -1,8 +1,13 @@
 //! Each limit at its edge and one past it.
 
+use second::generate::choices;
+use second::generate::gadgets::WEIGHT_SORTS;
 use second::generate::limits::limits;
 use second::reader::Second;
 use second::{check_derivation, check_proof};
+
+/// The sorts of choices are the last ones.
+const FIRST_CHOICE_SORT: usize = WEIGHT_SORTS - choices::WEIGHT_SORTS;
 
 #[test]
 fn limits_have_their_answers() {
@@ -44,4 +49,20 @@ fn the_most_nodes_and_the_deepest() {
     assert_eq!(accepted(" 1024 nodes deep").count(), 3);
     assert_eq!(proofs(" 1025 nodes deep").count(), 3);
     assert!(proofs(" 1025 nodes deep").all(|limit| limit.answer.refusal == 17));
+}
+
+/// Choices of each sort at the weight limit of each file pass, those one heavier are refused for it.
+#[test]
+fn the_heaviest_choices() {
+    let list = limits();
+    for (most, places) in [(4_096, 3), (16_384, 1)] {
+        for sort in FIRST_CHOICE_SORT..WEIGHT_SORTS {
+            for (weight, refusal) in [(most - 1, 0), (most, 0), (most + 1, 7)] {
+                let label = format!("weight {weight} of sort {sort} in");
+                let found = list.iter().filter(|l| l.case.label.contains(&label));
+                let right = found.filter(|l| l.answer.refusal == refusal);
+                assert_eq!(right.count(), places, "{label}");
+            }
+        }
+    }
 }

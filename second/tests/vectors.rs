@@ -1,7 +1,7 @@
 //! Every case of the vector files.
 
 use second::reader::Second;
-use second::vectors::{listings, vectors, LISTINGS};
+use second::vectors::{listings, vectors};
 use second::{check_derivation, check_proof, listing};
 
 fn run(file: &str) {
@@ -44,13 +44,27 @@ fn u1() {
 }
 
 #[test]
-fn u2() {
-    let cases = listings(LISTINGS);
-    println!("{LISTINGS}: {} cases", cases.len());
-    assert_eq!(cases.len(), 173);
+fn u3() {
+    run("u3.txt");
+}
+
+fn run_listings(file: &str, count: usize) {
+    let cases = listings(file);
+    println!("{file}: {} cases", cases.len());
+    assert_eq!(cases.len(), count, "{file}");
     for case in cases {
         let found = listing(&case.obligation, &case.proof);
         let [wanted, found] = [&case.output, &found].map(|text| String::from_utf8_lossy(text));
         assert_eq!(found, wanted, "{}", case.label);
     }
+}
+
+#[test]
+fn u2() {
+    run_listings("u2.txt", 173);
+}
+
+#[test]
+fn u2_after_u3() {
+    run_listings("u2_after_u3.txt", 197);
 }

@@ -22,7 +22,7 @@ fn main() -> ExitCode {
         let time = start.elapsed();
         print!("{coverage}");
         let each = time.as_secs_f64() * 1e6 / count.max(1) as f64;
-        println!("  {each:.0} ms for 1,000 cases, generation and check");
+        println!("  {each:.0} ms for 1,000 cases: generation, check and counts");
         for line in &coverage.broken {
             println!("  not as promised: {line}");
             whole = false;

@@ -3,6 +3,7 @@
 use super::expect::Expect;
 use super::rng::Rng;
 use crate::kinds::*;
+use crate::reader::Second;
 
 /// Damage to the bytes of a file: its length or its header.
 pub fn bytes_damage(
@@ -130,6 +131,55 @@ pub fn word_damage(rng: &mut Rng, obligation: &mut [u8], second: &mut [u8]) {
     }
 }
 
+/// One word of a choice that is in use changed; None if there is no choice.
+pub fn choice_damage(
+    rng: &mut Rng,
+    kind: Second,
+    obligation: &mut [u8],
+    second: &mut [u8],
+) -> Option<Expect> {
+    let m = (obligation.len() / 16 - 1) as u32;
+    let choices = |file: &[u8]| -> Vec<usize> {
+        let records = 1..file.len() / 16;
+        records.filter(|r| word_at(file, 4 * r) == CHOICE).collect()
+    };
+    let (first, last) = (choices(obligation), choices(second));
+    let in_first = last.is_empty() || (!first.is_empty() && rng.chance(40));
+    let (file, list, base) = match in_first {
+        true => (obligation, first, 0),
+        false => (second, last, m),
+    };
+    if list.is_empty() {
+        return None;
+    }
+    let record = *rng.pick(&list);
+    let typed = in_first || kind == Second::Proof;
+    Some(damage_choice(rng, file, record, base, typed))
+}
+
+fn damage_choice(rng: &mut Rng, file: &mut [u8], record: usize, base: u32, typed: bool) -> Expect {
+    let number = base + record as u32;
+    let [s, own] = [1, 2].map(|word| word_at(file, 4 * record + word));
+    let any_smaller = rng.range(1, number as usize - 1) as u32;
+    let not_smaller = *rng.pick(&[0, number, number + 1, number ^ 1 << 31]);
+    let no_kind = rng.range(24, 31) as u32;
+    let (word, value, expect) = match rng.below(9) {
+        0 => (0, no_kind, Expect::Refusal(3)),
+        1 => (3, *rng.pick(&[1, s, own, number]), Expect::Refusal(4)),
+        2 => (1, not_smaller, Expect::Refusal(5)),
+        3 => (2, not_smaller, Expect::Refusal(5)),
+        4 => (1, own, Expect::Refusal(5)),
+        5 => (2, s, Expect::Refusal(5)),
+        // A powerset of the same set has another own type.
+        6 if typed => (0, POWERSET, Expect::Refusal(10)),
+        6 => (0, POWERSET, Expect::Any),
+        7 => (1, any_smaller, Expect::Any),
+        _ => (2, any_smaller, Expect::Any),
+    };
+    set_word(file, 4 * record + word, value);
+    expect
+}
+
 /// One byte of a name's word becomes another that names are made of, or nearly.
 fn with_byte(rng: &mut Rng, word: u32) -> u32 {
     let list = b"AENacensuyz09_\xC3\xCC\xCC\x80\x81\x82\x83\x84\x88\x8A\xA7\xA8\xBF\0";
@@ -153,7 +203,7 @@ pub fn type_damage(rng: &mut Rng, second: &mut [u8], m: u32, obligation: &[u8]) 
         let record = 1 + (from + i) % count;
         let word = match word_at(second, 4 * record as usize) {
             SET_TYPE | PAIR_TYPE | CONSTANT | ALL => 1,
-            BOUND | POWERSET => 2,
+            BOUND | POWERSET | CHOICE => 2,
             PAIR | PRODUCT => 3,
             _ => continue,
         };

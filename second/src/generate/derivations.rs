@@ -4,6 +4,7 @@
 use super::expr::*;
 use super::proofs::{Draft, Shape};
 use super::refute::Script;
+use super::set5;
 use super::world::{Scope, World};
 use super::writer::Tree;
 use crate::arena::Mixing;
@@ -41,7 +42,13 @@ fn core(world: &mut World) -> Core {
     let ty = world.closed_type(1);
     let t = world.term(&ty, &Scope::default(), 1);
     let u = world.term(&ty, &Scope::default(), 1);
+    let set5 = world.choices > 0 && world.rng.chance(25);
     let (typed, p, yes, no) = match world.rng.below(9) {
+        _ if set5 => {
+            let (mut typed, chosen, yes) = set5::derivable(world);
+            typed.push(not(chosen.clone()));
+            (typed, chosen, yes, br3())
+        }
         0 => (vec![bottom()], bottom(), br3(), node(68, vec![], vec![])),
         1 => (vec![not(top())], top(), node(68, vec![], vec![]), br3()),
         2 => {
@@ -349,7 +356,7 @@ impl Maker<'_> {
         match terms.is_empty() || self.world.rng.chance(20) {
             true => {
                 let ty = self.world.closed_type(1);
-                self.world.term(&ty, &Scope::default(), 1).plain()
+                self.world.term(&ty, &Scope::default(), 2).plain()
             }
             false => self.world.rng.pick(&terms).clone(),
         }
@@ -484,6 +491,9 @@ fn forwards(world: &mut World, shape: Shape) -> Draft {
         10..=30 => 4,
         _ => 6,
     };
+    if world.choices > 0 && world.rng.chance(35) {
+        hypotheses.extend(set5::hypotheses(world));
+    }
     let (goal, script) = derive(world, &mut hypotheses, depth);
     if world.rng.chance(20) && !script.uses_br1() {
         let h = world.polymorphic(shape.depth);
@@ -561,7 +571,7 @@ fn derive(world: &mut World, members: &mut Vec<Expr>, depth: usize) -> (Expr, Sc
         10 | 11 => derive_all(world, members, down),
         12 | 13 => {
             let (quantified, script) = derive_all(world, members, down);
-            let term = world.term(&quantified.child(0), &Scope::default(), 1);
+            let term = world.term(&quantified.child(0), &Scope::default(), 2);
             let goal = quantified.body().put(&term);
             (goal, node(78, vec![quantified, term], vec![script]))
         }
@@ -597,6 +607,11 @@ fn derive_with(
 
 fn derive_at_once(world: &mut World, members: &mut [Expr]) -> (Expr, Script) {
     let br6 = node(68, vec![], vec![]);
+    if world.rng.chance(30) {
+        if let Some(found) = set5::derive_from(world, members) {
+            return found;
+        }
+    }
     match world.rng.below(6) {
         0 => (not(bottom()), br6),
         1 => (top(), br6),
@@ -619,7 +634,7 @@ fn derive_at_once(world: &mut World, members: &mut [Expr]) -> (Expr, Script) {
 
 /// A quantified goal, by a constant of its own.
 fn derive_all(world: &mut World, members: &mut Vec<Expr>, depth: usize) -> (Expr, Script) {
-    let ty = world.closed_type(1);
+    let ty = world.quantified_type(&Scope::default());
     let c = constant(world.new_reserved(ty.clone()));
     let mut scope = Scope::default();
     scope.bound.push(ty.clone());
@@ -629,7 +644,11 @@ fn derive_all(world: &mut World, members: &mut Vec<Expr>, depth: usize) -> (Expr
             (q, script)
         }
         1 => {
-            let t = world.term(&ty, &scope, 2);
+            let x = bound(0, ty.clone());
+            let t = match ty.is(SET_TYPE) && world.choices > 0 {
+                true => choice(x, ty.child(0)),
+                false => world.term(&ty, &scope, 2),
+            };
             (equal(t.clone(), t), node(80, vec![], vec![]))
         }
         _ => {

@@ -1,8 +1,8 @@
 //! Types, terms and formulas as the generator makes them.
 //!
 //! The kind is the record's kind. Typed expressions have their types among the children (own type last for
-//! pairs, products and powersets, first for quantifiers and applications); expressions without types have
-//! none of them.
+//! pairs, products, powersets and choices, first for quantifiers and applications); expressions without types
+//! have none of them.
 
 use crate::kinds::*;
 use std::hash::{Hash, Hasher};
@@ -217,7 +217,7 @@ impl Expr {
             ALL_TYPES => child(0),
             BOUND => plain_bound(self.0.number),
             PAIR | PRODUCT => Expr::make(self.0.kind, 0, 0, vec![child(0), child(1)]),
-            POWERSET => Expr::make(POWERSET, 0, 0, vec![child(0)]),
+            POWERSET | CHOICE => Expr::make(self.0.kind, 0, 0, vec![child(0)]),
             ALL => plain_all(self.body().plain()),
             APPLICATION => {
                 let arguments = self.0.children[self.0.types..].iter();
@@ -293,6 +293,14 @@ pub fn product(left: Expr, right: Expr, own: Expr) -> Expr {
 
 pub fn powerset(of: Expr, own: Expr) -> Expr {
     Expr::make(POWERSET, 0, 0, vec![of, own])
+}
+
+pub fn choice(of: Expr, own: Expr) -> Expr {
+    Expr::make(CHOICE, 0, 0, vec![of, own])
+}
+
+pub fn plain_choice(of: Expr) -> Expr {
+    Expr::make(CHOICE, 0, 0, vec![of])
 }
 
 /// `types` has the own type first.

@@ -3,7 +3,7 @@
 
 use super::rng::Rng;
 use super::writer::Writer;
-use super::{marks, spelling};
+use super::{choices, marks, spelling};
 use crate::kinds::*;
 
 /// The file that a gadget stands in.
@@ -27,7 +27,7 @@ impl Place {
     }
 
     /// 10 where types count.
-    fn typing(self) -> u64 {
+    pub fn typing(self) -> u64 {
         match self.is_typed() {
             true => 10,
             false => 0,
@@ -76,6 +76,15 @@ pub const GADGETS: &[(&str, Gadget)] = &[
     ("typing of signatures", typing_of_signatures),
     ("typing of applications", typing_of_applications),
     ("typed", typed),
+    ("kind in a choice's place", choices::kind),
+    ("choice's third word", choices::third_word),
+    ("choice's reference", choices::reference),
+    ("choice's reference", choices::reference_class),
+    ("typing of choices", choices::typing),
+    ("typing around choices", choices::typing_around),
+    ("typed choices", choices::typed),
+    ("typed around choices", choices::typed_around),
+    ("choice's weight", choices::weight),
 ];
 
 impl Bench<'_> {
@@ -170,6 +179,12 @@ impl Bench<'_> {
                 let c = self.constant(set);
                 self.push(POWERSET, c, own, 0)
             }
+            CHOICE => {
+                let ty = self.given();
+                let set = self.push(SET_TYPE, ty, 0, 0);
+                let c = self.constant(set);
+                self.push(CHOICE, c, ty, 0)
+            }
             APPLICATION => {
                 let ty = self.given();
                 let c = self.constant(ty);
@@ -210,11 +225,15 @@ impl Bench<'_> {
     }
 
     /// A right record of the kind, then the same once more with one word set.
-    fn again_with(&mut self, kind: u32, word: usize, value: u32) -> u32 {
+    pub fn again_with(&mut self, kind: u32, word: usize, value: u32) -> u32 {
         let record = self.sample(kind);
+        self.written_again(record, word, value)
+    }
+
+    /// The last record with one word set in place of itself: a symbol's name must not be taken by the right one.
+    pub fn written_again(&mut self, record: u32, word: usize, value: u32) -> u32 {
         let mut words = self.w.records[record as usize - 1].words();
         words[word] = value;
-        // A symbol's name must not be taken by the right one.
         self.w.records.pop();
         self.push(words[0], words[1], words[2], words[3])
     }
@@ -261,9 +280,13 @@ fn halvings(mut weight: u64) -> Vec<bool> {
 fn kind(b: &mut Bench) -> u64 {
     let list = [
         0,
-        23,
         24,
+        25,
+        26,
         27,
+        28,
+        29,
+        30,
         31,
         47,
         48,
@@ -310,6 +333,7 @@ const UNUSED: &[(u32, &[usize])] = &[
     (CONSTANT, &[3]),
     (BOUND, &[3]),
     (POWERSET, &[3]),
+    (CHOICE, &[3]),
     (BOTTOM, &[1, 2, 3]),
     (TOP, &[1, 2, 3]),
     (AND, &[3]),
@@ -399,6 +423,7 @@ const REFERENCES: &[(u32, &[(usize, bool)])] = &[
     (PAIR, &[(1, false), (2, false), (3, false)]),
     (PRODUCT, &[(1, false), (2, false), (3, false)]),
     (POWERSET, &[(1, false), (2, false)]),
+    (CHOICE, &[(1, false), (2, false)]),
     (APPLICATION, &[(1, false), (2, false), (3, true)]),
     (AND, &[(1, false), (2, false)]),
     (IMPLIES, &[(1, false), (2, false)]),
@@ -412,6 +437,11 @@ const REFERENCES: &[(u32, &[(usize, bool)])] = &[
 fn reference(b: &mut Bench) -> u64 {
     let (kind, words) = *b.rng.pick(REFERENCES);
     let (word, may_be_zero) = *b.rng.pick(words);
+    wrong_reference(b, kind, word, may_be_zero)
+}
+
+/// A right record of the kind but for one reference that is zero or not smaller.
+pub fn wrong_reference(b: &mut Bench, kind: u32, word: usize, may_be_zero: bool) -> u64 {
     let record = b.sample(kind);
     // The record to be written in its place has the same number.
     let value = match b.choose(5) {
@@ -421,10 +451,7 @@ fn reference(b: &mut Bench) -> u64 {
         3 => record + b.rng.below(5_000) as u32,
         _ => b.rng.word() | 1 << 30,
     };
-    let mut words = b.w.records[record as usize - 1].words();
-    words[word] = value;
-    b.w.records.pop();
-    b.push(words[0], words[1], words[2], words[3]);
+    b.written_again(record, word, value);
     5
 }
 
@@ -456,36 +483,57 @@ fn class_wanted(kind: u32, word: usize) -> Option<Class> {
         (LINK, _) | (FUNCTION, 1) | (APPLICATION, 2 | 3) => Class::Link,
         (NAME, _) | (GIVEN, _) | (CONSTANT, 2) | (FUNCTION, _) => Class::Name,
         (SET_TYPE | PAIR_TYPE | CONSTANT | BOUND, _) => Class::Type,
-        (PAIR | PRODUCT, 3) | (POWERSET, 2) | (ALL, 1) => Class::Type,
-        (PAIR | PRODUCT | POWERSET | EQUAL | IN, _) => Class::Term,
+        (PAIR | PRODUCT, 3) | (POWERSET | CHOICE, 2) | (ALL, 1) => Class::Type,
+        (PAIR | PRODUCT | POWERSET | CHOICE | EQUAL | IN, _) => Class::Term,
         (APPLICATION, _) => Class::Function,
         _ => Class::Formula,
     };
     Some(class)
 }
 
+impl Class {
+    fn kinds(self) -> &'static [u32] {
+        match self {
+            Class::Link => &[LINK],
+            Class::Name => &[NAME],
+            Class::Type => &[GIVEN, SET_TYPE, PAIR_TYPE, TYPE_VARIABLE],
+            Class::Term => &[
+                CONSTANT,
+                BOUND,
+                PAIR,
+                PRODUCT,
+                POWERSET,
+                CHOICE,
+                APPLICATION,
+            ],
+            Class::Function => &[FUNCTION],
+            Class::Formula => &[BOTTOM, TOP, AND, IMPLIES, NOT, ALL, EQUAL, IN],
+            Class::AllTypes => &[ALL_TYPES],
+        }
+    }
+}
+
 fn reference_class(b: &mut Bench) -> u64 {
     loop {
         let (kind, words) = *b.rng.pick(REFERENCES);
         let (word, _) = *b.rng.pick(words);
-        let other = *b.rng.pick(CLASSES);
-        match class_wanted(kind, word) {
-            Some(class) if class != other => {}
-            _ => continue,
+        if class_wanted(kind, word).is_some() {
+            return wrong_class(b, kind, word);
         }
-        let kinds: &[u32] = match other {
-            Class::Link => &[LINK],
-            Class::Name => &[NAME],
-            Class::Type => &[GIVEN, SET_TYPE, PAIR_TYPE, TYPE_VARIABLE],
-            Class::Term => &[CONSTANT, BOUND, PAIR, PRODUCT, POWERSET, APPLICATION],
-            Class::Function => &[FUNCTION],
-            Class::Formula => &[BOTTOM, TOP, AND, IMPLIES, NOT, ALL, EQUAL, IN],
-            Class::AllTypes => &[ALL_TYPES],
-        };
-        let wrong = *b.rng.pick(kinds);
-        let wrong = b.sample(wrong);
-        b.again_with(kind, word, wrong);
-        return 5;
+    }
+}
+
+/// A right record of the kind but for one reference to a record of another class.
+pub fn wrong_class(b: &mut Bench, kind: u32, word: usize) -> u64 {
+    let wanted = class_wanted(kind, word);
+    loop {
+        let other = *b.rng.pick(CLASSES);
+        if wanted != Some(other) {
+            let wrong = *b.rng.pick(other.kinds());
+            let wrong = b.sample(wrong);
+            b.again_with(kind, word, wrong);
+            return 5;
+        }
     }
 }
 
@@ -614,9 +662,12 @@ fn weight_edge(b: &mut Bench) -> u64 {
 
 /// One record of exactly the weight; typed rightly except where types don't count.
 fn weigh(b: &mut Bench, weight: u64) -> u64 {
-    let which = b.choose(8);
+    let which = b.choose(WEIGHT_SORTS + 1);
     weigh_one(b, which, weight)
 }
+
+/// The sorts of records that have a weight of their own.
+pub const WEIGHT_SORTS: usize = 7 + choices::WEIGHT_SORTS;
 
 /// The record of the weight, by sort: formulas of several kinds, types, terms.
 pub fn weigh_one(b: &mut Bench, which: usize, weight: u64) -> u64 {
@@ -656,6 +707,7 @@ pub fn weigh_one(b: &mut Bench, which: usize, weight: u64) -> u64 {
             let function = b.function(&[own], 1);
             b.application(function, &[own, other], &[]);
         }
+        7..WEIGHT_SORTS => choices::weigh(b, which - 7, weight),
         _ => {
             // Constants of any type weigh 1: no weight to refuse here.
             let ty = b.type_of_weight(b.place.most_weight());
@@ -784,17 +836,21 @@ fn name_shared(b: &mut Bench) -> u64 {
 }
 
 /// Types and constants for the typing gadgets.
-struct Kit {
-    ty: u32,
-    other: u32,
-    set: u32,
-    pairs: u32,
-    c: u32,
-    d: u32,
-    s: u32,
+pub struct Kit {
+    pub ty: u32,
+    pub other: u32,
+    /// Sets of the type.
+    pub set: u32,
+    /// Pairs of the type and the other.
+    pub pairs: u32,
+    pub c: u32,
+    /// A constant of the other type.
+    pub d: u32,
+    /// A constant of the set type.
+    pub s: u32,
 }
 
-fn kit(b: &mut Bench) -> Kit {
+pub fn kit(b: &mut Bench) -> Kit {
     let ty = b.given();
     let other = b.given();
     let set = b.push(SET_TYPE, ty, 0, 0);

@@ -1,10 +1,11 @@
 //! The edges, each limit at its edge and one past it, with the answers that the limits give.
 
+use super::choice_limits::choice_limits;
 use super::expr::*;
-use super::gadgets::{weigh_one, Bench, Place};
+use super::gadgets::{weigh_one, Bench, Place, WEIGHT_SORTS};
 use super::proof_limits::proof_limits;
 use super::rng::Rng;
-use super::root_damage::odd_hypothesis;
+use super::root_damage::{odd_hypothesis, ODD_HYPOTHESES};
 use super::spelling::{self, accent_of, accents};
 use super::world::World;
 use super::writer::{Tree, Writer};
@@ -43,6 +44,7 @@ pub fn limits() -> Vec<Limit> {
     proof_members(&mut list);
     type_counts(&mut list);
     list.extend(proof_limits());
+    list.extend(choice_limits());
     derivation_members(&mut list);
     derivation_depth(&mut list);
     deep_binders(&mut list);
@@ -50,7 +52,7 @@ pub fn limits() -> Vec<Limit> {
     list
 }
 
-const PLACES: [(Second, Place); 4] = [
+pub(super) const PLACES: [(Second, Place); 4] = [
     (Second::Proof, Place::Obligation),
     (Second::Derivation, Place::Obligation),
     (Second::Proof, Place::Proof),
@@ -84,13 +86,13 @@ pub(super) fn limit(
 // ---------------------------------------------------------------- places before the walk
 
 /// The smallest accepted case: ⊥ is hypothesis and goal.
-struct Base {
-    w: Writer,
-    head: u32,
-    goal: u32,
+pub(super) struct Base {
+    pub w: Writer,
+    pub head: u32,
+    pub goal: u32,
 }
 
-fn base() -> Base {
+pub(super) fn base() -> Base {
     let mut w = Writer::new(Rng::new(0));
     let bottom = w.push(BOTTOM, 0, 0, 0);
     let goal = w.push(NOT, bottom, 0, 0);
@@ -99,7 +101,7 @@ fn base() -> Base {
 }
 
 impl Base {
-    fn bench<'a>(&'a mut self, rng: &'a mut Rng, place: Place) -> Bench<'a> {
+    pub fn bench<'a>(&'a mut self, rng: &'a mut Rng, place: Place) -> Bench<'a> {
         Bench {
             w: &mut self.w,
             rng,
@@ -108,7 +110,7 @@ impl Base {
     }
 
     /// Ends the obligation and adds the closing node as the root.
-    fn close(&mut self, kind: Second) -> u32 {
+    pub fn close(&mut self, kind: Second) -> u32 {
         if self.w.m.is_none() {
             self.w.end_obligation(false);
         }
@@ -118,13 +120,13 @@ impl Base {
         }
     }
 
-    fn files(&self, root: u32) -> (Vec<u8>, Vec<u8>) {
+    pub fn files(&self, root: u32) -> (Vec<u8>, Vec<u8>) {
         self.w.files(self.head, self.goal, root)
     }
 }
 
 /// The base with records of no other use; the last of them is the one that counts.
-fn with_records(
+pub(super) fn with_records(
     list: &mut Vec<Limit>,
     kind: Second,
     place: Place,
@@ -155,7 +157,7 @@ fn with_records(
 
 fn weights(list: &mut Vec<Limit>, kind: Second, place: Place) {
     let most = place.most_weight();
-    for sort in 0..7 {
+    for sort in 0..WEIGHT_SORTS {
         for weight in [most - 1, most, most + 1] {
             let refusal = if weight > most { 7 } else { 0 };
             let label = format!("weight {weight} of sort {sort}");
@@ -496,7 +498,7 @@ fn hypotheses(list: &mut Vec<Limit>, kind: Second) {
             list.push(limit(kind, label, base.files(root), answer));
         }
     }
-    for which in 0..16 {
+    for which in 0..ODD_HYPOTHESES {
         let mut base = base();
         let mut rng = Rng::new(0);
         let mut bench = base.bench(&mut rng, Place::Obligation);
@@ -868,9 +870,8 @@ fn one_step(kind: u32, parts: Vec<Expr>) -> Tree {
 /// File, rule, hypotheses, parts, ¬goal.
 type InstanceCase = (Second, u32, Vec<Expr>, Vec<Expr>, Expr);
 
-/// Rules 43, 44, 77 and 78 on a formula ∀B with B(c), right or not. B's binders and places are all of
-/// given type 0.
-fn instance_cases(
+/// Rules 43, 44, 77 and 78 on a formula ∀B with B(c), right or not.
+pub(super) fn instance_cases(
     list: &mut Vec<Limit>,
     world: &World,
     label: &str,

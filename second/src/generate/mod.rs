@@ -5,6 +5,8 @@
 
 pub mod big;
 pub mod byte_damage;
+pub mod choice_limits;
+pub mod choices;
 pub mod derivations;
 pub mod expect;
 pub mod expr;
@@ -13,11 +15,13 @@ pub mod limits;
 pub mod marks;
 pub mod near;
 pub mod odd;
+pub mod odd_choices;
 pub mod proof_limits;
 pub mod proofs;
 pub mod refute;
 pub mod rng;
 pub mod root_damage;
+pub mod set5;
 pub mod spelling;
 pub mod tree_damage;
 pub mod world;
@@ -196,9 +200,20 @@ fn words_case(
     plan: Plan,
 ) -> Option<Case> {
     let mut written = write(kind, &mut rng, world, draft, plan)?;
-    byte_damage::word_damage(&mut rng, &mut written.obligation, &mut written.second);
+    let (obligation, second) = (&mut written.obligation, &mut written.second);
+    let of_choice = match rng.chance(40) {
+        true => byte_damage::choice_damage(&mut rng, kind, obligation, second),
+        false => None,
+    };
+    let label = match of_choice {
+        Some(expect) => format!("{} choice's words", expect.label()),
+        None => {
+            byte_damage::word_damage(&mut rng, obligation, second);
+            String::from("any: words")
+        }
+    };
     Some(Case {
-        label: String::from("any: words"),
+        label,
         obligation: written.obligation,
         second: written.second,
     })

@@ -1,13 +1,16 @@
-//! Directed damage: one leaf of an accepted tree becomes a node that is refused for a known reason.
+//! Directed damage: one leaf of an accepted tree becomes a node that is refused for a known reason, or one about
+//! choices that passes.
 //!
 //! A cut (rule 37 in proofs, BR4 in derivations) first brings in a formula that no other step has, so that
 //! members and goal are known well enough to tell the refusal.
 
 use super::expect::Expect;
 use super::expr::*;
+use super::odd_choices;
 use super::proofs::Draft;
 use super::refute::Script;
 use super::world::World;
+use super::writer::TreeNode;
 
 /// Symbols of its own for the odd leaf.
 struct Kit {
@@ -46,7 +49,7 @@ fn node(kind: u32, parts: Vec<Expr>, premises: Vec<Script>) -> Script {
     Script::new(kind, parts, premises)
 }
 
-/// Puts an odd node in place of a random leaf.
+/// Puts an odd node in place of a random leaf, which has no premises.
 pub fn odd_leaf(world: &mut World, draft: &mut Draft) -> Expect {
     let count = draft.tree.nodes.len();
     let from = world.rng.below(count);
@@ -55,13 +58,19 @@ pub fn odd_leaf(world: &mut World, draft: &mut Draft) -> Expect {
         .find(|&i| draft.tree.nodes[i].premises.is_empty())
         .unwrap_or(0);
     let derivation = draft.tree.nodes[0].kind >= 64;
-    let (script, refusal) = match derivation {
-        true => odd_derivation(world),
-        false => odd_proof(world, draft),
+    let about_choices = world.rng.chance(35);
+    let TreeNode { kind, parts, .. } = draft.tree.nodes[leaf].clone();
+    let closing = node(kind, parts, vec![]);
+    let known = |(script, refusal)| (script, Expect::Refusal(refusal));
+    let (script, expect) = match (derivation, about_choices) {
+        (true, false) => known(odd_derivation(world)),
+        (true, true) => odd_choices::derivation(world, closing),
+        (false, false) => known(odd_proof(world, draft)),
+        (false, true) => odd_choices::proof(world, draft, closing),
     };
     let script = if derivation { script.plain() } else { script };
     script.plant(&mut draft.tree, leaf);
-    Expect::Refusal(refusal)
+    expect
 }
 
 /// A node for a proof with any members.

@@ -139,7 +139,7 @@ fn last_walked(tree: &Tree) -> usize {
 
 /// Rule 34 with a part of each class but a formula's, beside a node that is right.
 fn odd_parts(list: &mut Vec<Limit>) {
-    for which in 0..10 {
+    for which in 0..11 {
         let mut w = Writer::new(Rng::new(0));
         let bottom = w.push(BOTTOM, 0, 0, 0);
         let goal = w.push(NOT, bottom, 0, 0);
@@ -149,6 +149,7 @@ fn odd_parts(list: &mut Vec<Limit>) {
         let set = w.push(SET_TYPE, given, 0, 0);
         let constant = w.push(CONSTANT, given, name, 0);
         let x = w.push(BOUND, 0, given, 0);
+        let chosen = chosen_constant(&mut w, given, set);
         let all_types = w.push(ALL_TYPES, 1, bottom, 0);
         let types = w.chain(&[given]);
         let other = w.name(b"f");
@@ -157,7 +158,7 @@ fn odd_parts(list: &mut Vec<Limit>) {
         let right = w.push(32, 0, 0, 0);
         let link = w.push(LINK, right, 0, 0);
         let items = [
-            name, given, set, constant, x, all_types, types, function, right, link,
+            name, given, set, constant, x, chosen, all_types, types, function, right, link,
         ];
         let parts = w.push(LINK, items[which], 0, 0);
         let wrong = w.push(34, parts, 0, 0);
@@ -172,4 +173,11 @@ fn odd_parts(list: &mut Vec<Limit>) {
             answer,
         ));
     }
+}
+
+/// A choice of a constant.
+fn chosen_constant(w: &mut Writer, ty: u32, set: u32) -> u32 {
+    let name = w.name(b"s");
+    let s = w.push(CONSTANT, set, name, 0);
+    w.push(CHOICE, s, ty, 0)
 }

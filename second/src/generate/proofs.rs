@@ -316,7 +316,7 @@ impl Maker<'_> {
 
     fn instantiate(&mut self, f: &Expr) -> Option<Step> {
         let ty = f.child(0);
-        let depth = self.world.rng.below(3);
+        let depth = self.world.rng.below(4);
         let term = self.world.term(&ty, &Scope::default(), depth);
         let instance = f.body().put(&term);
         Some(Step {
@@ -373,7 +373,7 @@ impl Maker<'_> {
         if t.has_reserved(self.world) {
             return None;
         }
-        let depth = self.world.rng.below(2);
+        let depth = self.world.rng.below(3);
         let u = match self.world.rng.chance(15) {
             true => t.clone(),
             false => self.world.term(&ty, &Scope::default(), depth),

@@ -1,6 +1,7 @@
 //! Formulas that refute themselves, with the proof that does it: they let every branch be closed.
 
 use super::expr::*;
+use super::set5;
 use super::world::{Scope, World};
 use super::writer::Tree;
 use crate::kinds::*;
@@ -49,11 +50,11 @@ impl Script {
 /// A formula and the proof that refutes it. Types may have variables below `variables`.
 pub fn refutable(world: &mut World, depth: usize, variables: u32) -> (Expr, Script) {
     let mut scope = Scope::polymorphic(variables);
-    let choice = match depth {
+    let which = match depth {
         0 => world.rng.below(6),
         _ => world.rng.below(15),
     };
-    match choice {
+    match which {
         0 => (bottom(), Script::new(32, vec![], vec![])),
         1 | 2 => negated(world, 0, variables),
         3 => {
@@ -97,11 +98,11 @@ pub fn refutable(world: &mut World, depth: usize, variables: u32) -> (Expr, Scri
 /// The same for a formula that is a ¬.
 fn negated(world: &mut World, depth: usize, variables: u32) -> (Expr, Script) {
     let mut scope = Scope::polymorphic(variables);
-    let choice = match depth {
+    let which = match depth {
         0 => world.rng.below(3),
         _ => world.rng.below(9),
     };
-    match choice {
+    match which {
         0 => (not(top()), Script::new(33, vec![], vec![])),
         1 => {
             let ty = world.ty(variables, 1);
@@ -140,14 +141,19 @@ fn negated(world: &mut World, depth: usize, variables: u32) -> (Expr, Script) {
     }
 }
 
-/// ¬∀x·(P ⇒ P) or ¬∀x·x=x, with a constant of its own.
+/// ¬∀x·(P ⇒ P), ¬∀x·x=x or ¬∀x·choice(x)=choice(x), with a constant of its own.
 fn existential(world: &mut World, depth: usize, variables: u32) -> (Expr, Script) {
-    let ty = world.closed_type(1);
+    let ty = world.quantified_type(&Scope::default());
     let c = constant(world.new_reserved(ty.clone()));
     let mut scope = Scope::polymorphic(variables);
     scope.bound.push(ty.clone());
     if world.rng.chance(30) {
-        let body = equal(bound(0, ty.clone()), bound(0, ty.clone()));
+        let x = bound(0, ty.clone());
+        let t = match ty.is(SET_TYPE) && world.choices > 0 {
+            true => choice(x, ty.child(0)),
+            false => x,
+        };
+        let body = equal(t.clone(), t);
         let f = not(all(ty, body.clone()));
         let close = Script::new(35, vec![not(body.put(&c))], vec![]);
         let script = Script::new(43, vec![f.clone(), c.clone(), body.put(&c)], vec![close]);
@@ -232,6 +238,9 @@ pub fn polymorphic_refutable(world: &mut World, depth: usize) -> (Expr, Script) 
 
 /// Formulas that together refute themselves.
 pub fn core(world: &mut World, depth: usize) -> (Vec<Expr>, Script) {
+    if world.choices > 0 && world.rng.chance(30) {
+        return set5::core(world);
+    }
     match world.rng.below(10) {
         0 => {
             let p = world.closed_formula(depth.min(2));

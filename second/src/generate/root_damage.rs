@@ -17,14 +17,17 @@ pub enum RootDamage {
 impl RootDamage {
     pub fn random(rng: &mut Rng) -> RootDamage {
         match rng.below(12) {
-            0..=2 => RootDamage::Goal(rng.below(8)),
+            0..=2 => RootDamage::Goal(rng.below(ODD_GOALS)),
             3 => RootDamage::Chain(rng.below(4)),
-            4..=7 => RootDamage::Hypothesis(rng.below(16)),
+            4..=7 => RootDamage::Hypothesis(rng.below(ODD_HYPOTHESES)),
             8..=10 => RootDamage::Root(rng.below(7)),
             _ => RootDamage::Many(*rng.pick(&[255, 256, 257, 258, 300])),
         }
     }
 }
+
+pub const ODD_HYPOTHESES: usize = 24;
+const ODD_GOALS: usize = 11;
 
 /// An item for the hypothesis chain; 11 if it is none that may stand there.
 pub fn odd_hypothesis(b: &mut Bench, which: usize) -> (u32, u64) {
@@ -60,8 +63,52 @@ pub fn odd_hypothesis(b: &mut Bench, which: usize) -> (u32, u64) {
             let t = b.application(function, &[ty, v], &[]);
             (b.push(EQUAL, t, t, 0), 11)
         }
-        _ => (implied, 0),
+        15 => (implied, 0),
+        _ => about_choices(b, which - 16),
     }
+}
+
+/// The same with choices: what is unbound is so beneath a choice only.
+fn about_choices(b: &mut Bench, which: usize) -> (u32, u64) {
+    let ty = b.given();
+    let set = b.push(SET_TYPE, ty, 0, 0);
+    let v = b.push(TYPE_VARIABLE, 1, 0, 0);
+    let set_v = b.push(SET_TYPE, v, 0, 0);
+    match which {
+        0 => (chosen_is_itself(b, 0, set, ty), 11),
+        1 => {
+            let open = chosen_is_itself(b, 1, set, ty);
+            (b.push(ALL, set, open, 0), 11)
+        }
+        2 => {
+            let open = chosen_is_itself(b, 0, set, ty);
+            (b.push(ALL, set, open, 0), 0)
+        }
+        3 => (b.sample(CHOICE), 11),
+        4 => {
+            // The variable is in a type argument only.
+            let function = b.function(&[set], 1);
+            let s = b.application(function, &[set, v], &[]);
+            let chosen = b.push(CHOICE, s, ty, 0);
+            (b.push(EQUAL, chosen, chosen, 0), 11)
+        }
+        _ => {
+            let open = chosen_is_itself(b, 0, set_v, v);
+            let over_v = b.push(ALL, set_v, open, 0);
+            match which {
+                5 => (over_v, 11),
+                6 => (b.push(ALL_TYPES, 1, over_v, 0), 11),
+                _ => (b.push(ALL_TYPES, 2, over_v, 0), 0),
+            }
+        }
+    }
+}
+
+/// choice(x) = choice(x) for an index of the set type.
+fn chosen_is_itself(b: &mut Bench, index: u32, set: u32, ty: u32) -> u32 {
+    let x = b.push(BOUND, index, set, 0);
+    let chosen = b.push(CHOICE, x, ty, 0);
+    b.push(EQUAL, chosen, chosen, 0)
 }
 
 /// A record for the header's goal that is refused there.
@@ -79,6 +126,17 @@ pub fn odd_goal(b: &mut Bench, which: usize) -> u32 {
         4 => b.push(NOT, open, 0, 0),
         5 => b.push(NOT, over_v, 0, 0),
         6 => b.push(ALL_TYPES, 1, f, 0),
-        _ => b.push(TOP, 0, 0, 0),
+        7 => b.push(TOP, 0, 0, 0),
+        8 => b.sample(CHOICE),
+        _ => {
+            // Unbound beneath a choice: an index, or a type variable.
+            let ty = if which == 9 { ty } else { v };
+            let set = b.push(SET_TYPE, ty, 0, 0);
+            let mut open = chosen_is_itself(b, 0, set, ty);
+            if which != 9 {
+                open = b.push(ALL, set, open, 0);
+            }
+            b.push(NOT, open, 0, 0)
+        }
     }
 }

@@ -22,6 +22,7 @@ pub const TREE_DAMAGE: &[(&str, TreeDamage)] = &[
     ("part another formula", part_another),
     ("part changed inside", part_changed_inside),
     ("⊤ for ¬⊥ or back", exchange_truth),
+    ("choice changed", change_choice),
     ("rule changed", change_rule),
     ("node shared", share_node),
     ("node unnamed", unnamed_node),
@@ -279,39 +280,74 @@ fn change_here(world: &mut World, expr: &Expr) -> Expr {
 
 /// One ⊤ inside a part becomes ¬⊥, or one ¬⊥ becomes ⊤.
 fn exchange_truth(world: &mut World, draft: &mut Draft) -> Option<Expect> {
+    let is_truth = |expr: &Expr| expr.is(TOP) || expr.is_not(BOTTOM);
+    change_one(world, draft, is_truth, |_, truth| match truth.is(TOP) {
+        true => not(bottom()),
+        false => top(),
+    })
+}
+
+/// One choice inside a part becomes another, a powerset, or what it is a choice of.
+fn change_choice(world: &mut World, draft: &mut Draft) -> Option<Expect> {
+    let is_choice = |expr: &Expr| expr.is(CHOICE);
+    change_one(world, draft, is_choice, |world, chosen| {
+        let set = chosen.child(0);
+        if chosen.children().len() == 1 {
+            let again = plain_choice(chosen.clone());
+            let other = chosen.rebuilt(POWERSET, vec![set.clone()]);
+            return world.rng.pick(&[again, other, set]).clone();
+        }
+        let ty = chosen.child(1);
+        let sets = set_type(ty.clone());
+        let other = world.term(&sets, &Scope::default(), 1);
+        match world.rng.below(4) {
+            0 => choice(set, sets),
+            1 => world.term(&ty, &Scope::default(), 1),
+            _ => choice(other, ty),
+        }
+    })
+}
+
+/// One place that fits, in a part of a node that has one, becomes what `change` makes of it.
+fn change_one(
+    world: &mut World,
+    draft: &mut Draft,
+    fits: fn(&Expr) -> bool,
+    change: fn(&mut World, &Expr) -> Expr,
+) -> Option<Expect> {
     let nodes = &draft.tree.nodes;
-    let has_truth = |i: usize| nodes[i].parts.iter().any(|part| truths(part) > 0);
-    let node = node_with(world, &draft.tree, has_truth)?;
+    let has_place = |i: usize| nodes[i].parts.iter().any(|part| places(part, fits) > 0);
+    let node = node_with(world, &draft.tree, has_place)?;
     let parts = &mut draft.tree.nodes[node].parts;
-    let part = parts.iter_mut().find(|part| truths(part) > 0)?;
-    let mut left = world.rng.below(truths(part));
-    *part = exchanged(part, &mut left);
+    let part = parts.iter_mut().find(|part| places(part, fits) > 0)?;
+    let mut left = world.rng.below(places(part, fits));
+    *part = changed_at(part, fits, &mut left, &mut |place| change(world, place));
     Some(Expect::Any)
 }
 
-fn is_truth(expr: &Expr) -> bool {
-    expr.is(TOP) || expr.is_not(BOTTOM)
+/// How many places in it fit.
+fn places(expr: &Expr, fits: fn(&Expr) -> bool) -> usize {
+    let below = expr.children().iter().map(|child| places(child, fits));
+    below.sum::<usize>() + usize::from(fits(expr))
 }
 
-/// How many ⊤ and ¬⊥ there are in it.
-fn truths(expr: &Expr) -> usize {
-    let below = expr.children().iter().map(truths).sum::<usize>();
-    below + usize::from(is_truth(expr))
-}
-
-/// The expression with the ⊤ or ¬⊥ exchanged before which `left` others stand.
-fn exchanged(expr: &Expr, left: &mut usize) -> Expr {
-    match (is_truth(expr), *left) {
-        (true, 0) if expr.is(TOP) => return not(bottom()),
-        (true, 0) => return top(),
+/// The expression with the fitting place changed before which `left` others stand.
+fn changed_at(
+    expr: &Expr,
+    fits: fn(&Expr) -> bool,
+    left: &mut usize,
+    change: &mut dyn FnMut(&Expr) -> Expr,
+) -> Expr {
+    match (fits(expr), *left) {
+        (true, 0) => return change(expr),
         (true, _) => *left -= 1,
         _ => {}
     }
     let mut children = expr.children().to_vec();
     for child in &mut children {
-        let inside = truths(child);
+        let inside = places(child, fits);
         if *left < inside {
-            *child = exchanged(child, left);
+            *child = changed_at(child, fits, left, change);
             break;
         }
         *left -= inside;

@@ -25,6 +25,8 @@ pub struct World {
     pub given: Vec<Vec<u8>>,
     pub constants: Vec<Constant>,
     pub functions: Vec<Function>,
+    /// In percent: terms that are choices. 0 in some worlds, so that there are cases without any.
+    pub choices: usize,
     /// Letters a to z only, or all that names may have.
     wide_names: bool,
     /// By characters, not by bytes.
@@ -51,11 +53,13 @@ impl Scope {
 impl World {
     pub fn new(mut rng: Rng) -> World {
         let wide_names = rng.chance(40);
+        let choices = *rng.pick(&[0, 0, 10, 20, 35]);
         let mut world = World {
             rng,
             given: Vec::new(),
             constants: Vec::new(),
             functions: Vec::new(),
+            choices,
             wide_names,
             taken: HashSet::new(),
             given_taken: HashSet::new(),
@@ -80,6 +84,7 @@ impl World {
             given: Vec::new(),
             constants: Vec::new(),
             functions: Vec::new(),
+            choices: 0,
             wide_names: false,
             taken: HashSet::new(),
             given_taken: HashSet::new(),
@@ -154,7 +159,7 @@ impl World {
         match term.kind() {
             CONSTANT => self.constants[term.number() as usize].ty.clone(),
             BOUND | APPLICATION => term.child(0),
-            POWERSET => term.child(1),
+            POWERSET | CHOICE => term.child(1),
             _ => term.child(2),
         }
     }
@@ -183,6 +188,12 @@ impl World {
             .collect();
         if !bound_here.is_empty() && self.rng.chance(70) {
             return bound(*self.rng.pick(&bound_here) as u32, ty.clone());
+        }
+        if depth > 0 && self.rng.chance(self.choices) {
+            return choice(
+                self.term(&set_type(ty.clone()), scope, depth - 1),
+                ty.clone(),
+            );
         }
         if depth > 0 && self.rng.chance(45) {
             if let Some(term) = self.compound(ty, scope, depth - 1) {
@@ -295,13 +306,22 @@ impl World {
             }
             8..=12 => not(self.formula(scope, depth - 1)),
             13..=16 => {
-                let ty = self.ty(scope.variables, 1);
+                let ty = self.quantified_type(scope);
                 scope.bound.push(ty.clone());
                 let body = self.formula(scope, depth - 1);
                 scope.bound.pop();
                 all(ty, body)
             }
             _ => self.atom(scope),
+        }
+    }
+
+    /// Where choices are wanted often a set's type, so that they are made of the variable.
+    pub fn quantified_type(&mut self, scope: &Scope) -> Expr {
+        let ty = self.ty(scope.variables, 1);
+        match self.rng.chance(2 * self.choices) {
+            true => set_type(ty),
+            false => ty,
         }
     }
 
@@ -343,7 +363,11 @@ impl World {
                 true => &scope.bound[..scope.bound.len().min(3)],
                 false => &scope.bound[..],
             };
-            return self.rng.pick(among).clone();
+            let ty = self.rng.pick(among).clone();
+            return match ty.is(SET_TYPE) && self.rng.chance(self.choices) {
+                true => ty.child(0),
+                false => ty,
+            };
         }
         self.ty(scope.variables, 2)
     }

@@ -232,9 +232,9 @@ impl Writer {
                 let ty = self.some_type(world);
                 self.push(expr.kind(), child(0), child(1), ty)
             }
-            POWERSET => {
+            POWERSET | CHOICE => {
                 let ty = self.some_type(world);
-                self.push(POWERSET, child(0), ty, 0)
+                self.push(expr.kind(), child(0), ty, 0)
             }
             kind => self.push(kind, child(0), child(1), 0),
         }
