@@ -42,5 +42,5 @@ fn samples() {
         }
         tried += 1;
     }
-    assert!(tried >= 35, "16 proofs and 19 derivations, {tried} tried");
+    assert!(tried >= 40, "20 proofs and 20 derivations, {tried} tried");
 }
