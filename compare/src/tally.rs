@@ -2,7 +2,7 @@
 
 use crate::threads::Counts;
 use crate::{desk, Asked};
-use second::Answer;
+use second::{kinds, Answer};
 use std::fmt::Write;
 
 /// Nodes from which on an accepted file counts as large.
@@ -22,6 +22,8 @@ pub struct Tally {
     pub most_nodes: u64,
     /// Accepted files of at least [`LARGE`] nodes.
     pub large: u64,
+    /// Accepted pairs with a choice among their records.
+    pub choices: u64,
     shown: Vec<String>,
 }
 
@@ -47,6 +49,7 @@ impl Tally {
         if wanted.is_accepted() {
             self.most_nodes = self.most_nodes.max(wanted.nodes);
             self.large += u64::from(wanted.nodes >= LARGE);
+            self.choices += u64::from([obligation, second].into_iter().any(has_choice));
         }
         if found != wanted {
             self.differences += 1;
@@ -78,8 +81,8 @@ impl Tally {
 
     fn counts(&self) -> String {
         let mut text = format!(
-            "none {} (up to {} nodes, {} of {LARGE} and more)",
-            self.refusals[0][0], self.most_nodes, self.large
+            "none {} (up to {} nodes, {} of {LARGE} and more, {} with a choice)",
+            self.refusals[0][0], self.most_nodes, self.large, self.choices
         );
         for (refusal, files) in self.refusals.iter().enumerate().skip(1) {
             let _ = write!(text, ", {refusal}: {}+{}", files[1], files[2]);
@@ -94,6 +97,7 @@ impl Counts for Tally {
         self.differences += other.differences;
         self.most_nodes = self.most_nodes.max(other.most_nodes);
         self.large += other.large;
+        self.choices += other.choices;
         for (mine, theirs) in self.refusals.iter_mut().zip(other.refusals) {
             mine.iter_mut().zip(theirs).for_each(|(m, t)| *m += t);
         }
@@ -103,6 +107,13 @@ impl Counts for Tally {
     fn too_many(&self) -> bool {
         self.shown.len() >= MOST_SHOWN
     }
+}
+
+/// A record of kind 23 stands in the file.
+fn has_choice(file: &[u8]) -> bool {
+    let choice = kinds::CHOICE.to_le_bytes();
+    file.chunks_exact(16)
+        .any(|record| record.starts_with(&choice))
 }
 
 pub(crate) fn hex(bytes: &[u8]) -> String {

@@ -14,6 +14,8 @@ use second::Answer;
 const CASES: u64 = 60_000;
 const CHECKED_CASES: u64 = 100_000;
 const RAW_CASES: u64 = 30_000;
+/// From so many generated cases on, a quarter of the accepted ones has a choice.
+const ENOUGH: u64 = 1_000;
 /// Each makes some seven pairs.
 const LARGE_CASES: u64 = 3_000;
 
@@ -67,12 +69,12 @@ fn edges() {
     tally.report("edges, each against both answers");
 }
 
-/// Every question, with the numbers below its count, up to the first few differences.
+/// Every question, with the numbers below its count, up to the first few differences: the counts of each.
 fn compare_all(
     what: &str,
     count: impl Fn(Asked) -> u64,
     compare: impl Fn(&mut Tally, Asked, u64) + Sync,
-) {
+) -> Vec<(String, Tally)> {
     let mut reports = Vec::new();
     for asked in Asked::ALL {
         let count = count(asked);
@@ -80,15 +82,24 @@ fn compare_all(
         reports.push((format!("{what} {asked:?}"), tally));
     }
     reports.iter().for_each(|(what, tally)| tally.report(what));
+    reports
 }
 
 #[test]
 fn generated() {
-    compare_all("generated", cases, |tally, asked, seed| {
+    let reports = compare_all("generated", cases, |tally, asked, seed| {
         let case = case(asked.kind(), seed);
         let label = format!("seed {seed} {}", case.label);
         tally.compare(&label, asked, &case.obligation, &case.second);
     });
+    for (what, tally) in reports.iter().filter(|(_, tally)| tally.cases >= ENOUGH) {
+        let accepted = tally.refusals[0][0];
+        assert!(
+            tally.choices * 4 > accepted,
+            "{what}: {} with a choice",
+            tally.choices
+        );
+    }
 }
 
 /// Accepted files of hundreds of nodes, and near misses of each.
