@@ -1,4 +1,4 @@
--- From an accepting walk to a derivation: what the tests of a node say of the forms of its parts and goal, rule by rule, and the choice by its kind.
+-- From an accepting walk to a derivation: what the tests of a node say of the forms of its parts and goal, rule by rule, and the selection by its kind.
 use Prim.Native.Nat.{ℕ, suc, _+_, _≤_}
 use mathlib.Core.Path.{_≡_, refl, sym, ap, subst, _∙_}
 use mathlib.Core.List.{List, [], _∷_}
@@ -225,7 +225,7 @@ module _ (rd : Reader) (n c d : ℕ) (Γ : List Tree) (few : length Γ ≤ 2048)
         back rd n c d Γ few G _ e (goal80 (firstOf G) (secondOf G)
         (as-goal rd n c d Γ few 80 [] G _ e (as-parts rd n c d Γ few 80 (bareParts rd n) [] G (shapes-0 _ (g .passed .shapes)) g)))
 
--- a choice by kind that fits: the kind is l, or the rest fits
+-- selection by kind that fits: the kind is l, or the rest fits
 pick : (k l : ℕ) (x y : Row) → ifEq k l x y .fits ≡ true → (k ≡ l) ⊎ (y .fits ≡ true)
 unfolding ifEq
 pick k l x y h = go (eqb k l) refl h

@@ -78,7 +78,7 @@ next-is rd Γ n k ps b ek ep = rw (ek, ep)
 pub two-added : (Γ : List Tree) (P Q : Tree) → Γ ▹ P ▹ Q ≡ Γ ++ (P ∷ Q ∷ [])
 two-added Γ P Q = append-assoc Γ (P ∷ []) (Q ∷ [])
 
--- a choice of a row that fits
+-- a row selected by kind fits: the kind is c, or the other row fits
 chosen : (k c : ℕ) (x y : Row) → ifEq k c x y .fits ≡ true → (k ≡ c) ⊎ (y .fits ≡ true)
 unfolding ifEq
 chosen k c x y h = go (eqb k c) refl h

@@ -63,7 +63,7 @@ type-over (HasType.powerset p) = TypeOver.set (type-over p)
 type-over (HasType.application f ts x e) = own-type ts
 type-over (HasType.choice p) = set-inside (type-over p)
 
--- What is well typed has the types that paper 01 asks.
+-- What is well typed has the types that paper 01 and paper 02, U3, ask.
 
 pub pair-types : {rd : Reader} {x y own τ : Tree} → HasType rd (node 10 0 x y own) τ → own ≡ pairᵗ (typeOf x) (typeOf y)
 pair-types (HasType.pair p q) = let a = type-carried p in let b = type-carried q in cc

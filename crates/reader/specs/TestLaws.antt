@@ -1,4 +1,4 @@
--- Laws of tests and choices: each is one way out of code that makes them.
+-- Laws of tests and of selection by them: each is one way out of code that makes them.
 use Prim.Native.Nat.{ℕ, zero, suc, _+_, _<_, _≤_}
 use mathlib.Core.Path.{_≡_, sym, _∙_}
 use mathlib.Core.Bool.{Bool, true, false, not}
@@ -39,7 +39,7 @@ or-go a b r s e h q = simp (orElse, ← e, eq-eqb r 0 h) q
 
 pub ruleset ors = (or-stop, or-go)
 
--- Choices, where the code tests the numbers that the definition names.
+-- Selection, where the code tests the numbers that the definition names.
 module _ {A : Type 0} (a b : ℕ) (x y r : A) where
   pub eq-yes : a ≡ b → r ≡ x → r ≡ ifEq a b x y
   unfolding ifEq
@@ -71,7 +71,7 @@ module _ {A : Type 0} (b t : Bool) (x y r : A) (et : t ≡ b) where
 
 pub ruleset trues = (true-yes, true-no)
 
--- Choices on numbers where the code holds p for the first number that the definition names.
+-- Selection on numbers where the code holds p for the first number that the definition names.
 module _ {A : Type 0} (a b : ℕ) (x y r : A) (p : ℕ) (ep : p ≡ a) where
   pub eq-yes-of : p ≡ b → r ≡ x → r ≡ ifEq a b x y
   eq-yes-of h e = eq-yes a b x y r (sym ep ∙ h) e

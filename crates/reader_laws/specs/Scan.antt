@@ -119,7 +119,7 @@ every-head test x xs h = go (test x) refl h
     go true e h = (e, h)
     go false e h = absurd (false≢true h)
 
--- a choice whose test is known
+-- selection by a test that is known
 module _ {A : Type 0} (x y : A) where
   pub when-equal : (a b : ℕ) → a ≡ b → ifEq a b x y ≡ x
   unfolding ifEq

@@ -1,5 +1,5 @@
--- The table of records of paper 01, with kind 23 of paper 02, U3: the kind of a record and each of its words, the lengths of its chains, the kinds with a weight and the most that
--- they may weigh. `mode` is the kind of file: 0 an obligation, 1 a proof, 2 a derivation.
+-- The table of records of paper 01, with kind 23 of paper 02, U3: the kind of a record and each of its words, the lengths of its chains, the kinds with a
+-- weight and the most that they may weigh. `mode` is the kind of file: 0 an obligation, 1 a proof, 2 a derivation.
 use Prim.Native.Nat.{ℕ, _<_, _≤_}
 use mathlib.Core.Path.{_≡_}
 use mathlib.Core.Logic.{_⊎_}

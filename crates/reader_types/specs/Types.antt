@@ -15,15 +15,18 @@ use Rattle.reader.specs.TreeLaws.{tree-zero, tree-step}
 use Rattle.reader_chains.specs.Shapes.{lower-zero, child-zero, child-lower, first-tree, second-tree, third-tree}
 use Rattle.reader_types.specs.SetsAndPairs.{isSetOf, isPairOf, isSetOfPair}
 
+-- the record of the type of term i, where its kind is k
+unfoldable pub typeBy : ℕ → Reader → ℕ → ℕ
+typeBy k rd i =
+    ifEq k 7 (lower rd i 1)
+    (ifEq k 9 (lower rd i 2)
+    (ifEq k 10 (lower rd i 3)
+    (ifEq k 11 (lower rd i 3)
+    (ifEq k 12 (lower rd i 2) (ifEq k 13 (child rd (lower rd i 2) 1) (ifEq k 23 (lower rd i 2) 0))))))
+
 -- the record of term i's type: 0 where i is no term
 unfoldable pub typeAt : Reader → ℕ → ℕ
-typeAt rd i =
-    ifEq (rd i 0) 7 (lower rd i 1)
-    (ifEq (rd i 0) 9 (lower rd i 2)
-    (ifEq (rd i 0) 10 (lower rd i 3)
-    (ifEq (rd i 0) 11 (lower rd i 3)
-    (ifEq (rd i 0) 12 (lower rd i 2)
-    (ifEq (rd i 0) 13 (child rd (lower rd i 2) 1) (ifEq (rd i 0) 23 (lower rd i 2) 0))))))
+typeAt rd i = typeBy (rd i 0) rd i
 
 -- the type of the term that word w of record i refers to
 unfoldable pub partType : Reader → ℕ → ℕ → ℕ
@@ -48,7 +51,7 @@ if-zero a b x y p q = go (eqb a b)
 
 -- record 0 is no term
 type-zero : (rd : Reader) → typeAt rd 0 ≡ 0
-unfolding typeAt
+unfolding typeAt typeBy
 type-zero rd =
     if-zero (rd 0 0) 7 _ _ (lower-zero rd 1)
     (if-zero (rd 0 0) 9 _ _ (lower-zero rd 2)
@@ -63,7 +66,7 @@ part-tree rd i k w h e = rw (child-lower rd i k e w h)
 
 -- the tree of a term's type is the type of its tree
 pub type-tree : (rd : Reader) (i : ℕ) → tree rd (typeAt rd i) ≡ typeOf (tree rd i)
-unfolding typeAt typeOf role ifLt ifEq
+unfolding typeAt typeBy typeOf role ifLt ifEq
 type-tree rd zero = rw (type-zero rd, tree-zero rd)
 type-tree rd (suc i) =
     let k = rd (suc i) 0 in
@@ -76,7 +79,18 @@ type-tree rd (suc i) =
     (tree-if rd k 13 _ _ _ _ (λ e. rw (child-lower rd (suc i) 13 e 2 (omega arith), first-tree))
     (tree-if rd k 23 _ _ _ _ (part-tree rd (suc i) 23 2 (omega arith)) (tree-zero rd))))))))
 
--- The ways out of `type_at` and `part_type`.
+-- The ways out of `type_at`: by the arm of kind c, and by the last.
+module _ (rd : Reader) (i k : ℕ) (ek : k ≡ rd i 0) where
+  pub type-as : (c : ℕ) → k ≡ c → (r : ℕ) → r ≡ typeBy c rd i → r ≡ typeAt rd i
+  unfolding typeAt
+  type-as c e r h = rw (← ek, e) h
+
+  pub no-term : (k ≡ 7 → ⊥) → (k ≡ 9 → ⊥) → (k ≡ 10 → ⊥) → (k ≡ 11 → ⊥) → (k ≡ 12 → ⊥) → (k ≡ 13 → ⊥) → (k ≡ 23 → ⊥) → 0 ≡ typeAt rd i
+  unfolding typeAt typeBy ifEq
+  no-term a b c d e f g =
+      rw (← ek) (simp (ifEq, ne-eqb k 7 a, ne-eqb k 9 b, ne-eqb k 10 c, ne-eqb k 11 d, ne-eqb k 12 e, ne-eqb k 13 f, ne-eqb k 23 g))
+
+-- The ways out of `first_type` and `part_type`.
 pub own-type : (rd : Reader) (i x r : ℕ) → x ≡ lower rd i 2 → r ≡ child rd x 1 → r ≡ child rd (lower rd i 2) 1
 own-type rd i x r p e = rw (← p) e
 

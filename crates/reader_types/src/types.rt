@@ -7,38 +7,32 @@ ghost use mathlib.Core.Path.{_≡_};
 ghost use lib.ListN.{length};
 ghost use Rattle.reader.specs.Words.{word};
 ghost use Rattle.reader_equality.specs.Least.{Numbered};
-ghost use Rattle.reader.specs.Trees.{tree};
+ghost use Rattle.reader.specs.Trees.{tree, lower, child};
 ghost use Rattle.reader.specs.Typing.{constantTyped, pairTyped, productTyped, powersetTyped, choiceTyped, forAllTyped, equalTyped, memberTyped};
 ghost use Rattle.reader_types.specs.Types.{typeAt, partType};
+
+// The record of an application's own type, the first of its types.
+fn first_type(obligation: &[u8], second: &[u8], m: usize, i: usize) -> usize
+    ensures { λ r. ⌜ r ≡ child (word (now (obligation .entry)) (now (second .entry)) m) (lower (word (now (obligation .entry)) (now (second .entry)) m) i 2) 1 ⌝ }
+{
+    let types = trees::lower_at(obligation, second, m, i, 2);
+    trees::child_at(obligation, second, m, types, 1)
+}
 
 // The record of term i's type, 0 where i is no term.
 pub fn type_at(obligation: &[u8], second: &[u8], m: usize, i: usize) -> usize
     ensures { λ r. ⌜ r ≡ typeAt (word (now (obligation .entry)) (now (second .entry)) m) i ⌝ }
 {
-    let k = words::word_at(obligation, second, m, i, 0);
-    if k == 7 {
-        return trees::lower_at(obligation, second, m, i, 1);
+    match words::word_at(obligation, second, m, i, 0) {
+        7 => trees::lower_at(obligation, second, m, i, 1),
+        9 => trees::lower_at(obligation, second, m, i, 2),
+        10 => trees::lower_at(obligation, second, m, i, 3),
+        11 => trees::lower_at(obligation, second, m, i, 3),
+        12 => trees::lower_at(obligation, second, m, i, 2),
+        13 => first_type(obligation, second, m, i),
+        23 => trees::lower_at(obligation, second, m, i, 2),
+        _ => 0,
     }
-    if k == 9 {
-        return trees::lower_at(obligation, second, m, i, 2);
-    }
-    if k == 10 {
-        return trees::lower_at(obligation, second, m, i, 3);
-    }
-    if k == 11 {
-        return trees::lower_at(obligation, second, m, i, 3);
-    }
-    if k == 12 {
-        return trees::lower_at(obligation, second, m, i, 2);
-    }
-    if k == 13 {
-        let types = trees::lower_at(obligation, second, m, i, 2);
-        return trees::child_at(obligation, second, m, types, 1);
-    }
-    if k == 23 {
-        return trees::lower_at(obligation, second, m, i, 2);
-    }
-    0
 }
 
 // The type of the term that word w of record i refers to.

@@ -13,9 +13,9 @@ module _ (rd : Reader) (i k : ℕ) (ek : k ≡ rd i 0) where
   unfolding isTyped
   typed-as c e r h = rw (← ek, e) h
 
-  -- by the last arm
-  pub not-typed : (k ≡ 7 → ⊥) → (k ≡ 8 → ⊥) → (k ≡ 10 → ⊥) → (k ≡ 11 → ⊥) → (k ≡ 12 → ⊥) → (k ≡ 13 → ⊥) →
+  -- by the last arm: kinds of whose types nothing is asked
+  pub nothing-asked : (k ≡ 7 → ⊥) → (k ≡ 8 → ⊥) → (k ≡ 10 → ⊥) → (k ≡ 11 → ⊥) → (k ≡ 12 → ⊥) → (k ≡ 13 → ⊥) →
       (k ≡ 19 → ⊥) → (k ≡ 20 → ⊥) → (k ≡ 21 → ⊥) → (k ≡ 23 → ⊥) → true ≡ isTyped rd i
   unfolding isTyped typingOf ifEq
-  not-typed a b c d e f g h j l =
+  nothing-asked a b c d e f g h j l =
       rw (← ek) (simp (ifEq, ne-eqb k 7 a, ne-eqb k 8 b, ne-eqb k 10 c, ne-eqb k 11 d, ne-eqb k 12 e, ne-eqb k 13 f, ne-eqb k 19 g, ne-eqb k 20 h, ne-eqb k 21 j, ne-eqb k 23 l))

@@ -19,10 +19,10 @@ use Rattle.translation_addresses.specs.Addresses.{base-grows, size-rule}
 use Rattle.translation_bytes.specs.Records.{word-front, word-behind, word-part, length-part, length-joined, record-word}
 use Rattle.translation_bytes.specs.Lines.{BlocksFit, template-kind, lines-length, lines-word}
 
--- a choice between equals
-one-choice : (a b x : ℕ) → ifEq a b x x ≡ x
+-- selection between equals
+either-equal : (a b x : ℕ) → ifEq a b x x ≡ x
 unfolding ifEq
-one-choice a b x = go (eqb a b)
+either-equal a b x = go (eqb a b)
   where
     go : (t : Bool) → elim t as (λ y. ℕ) [ true ↦ x | false ↦ x ] ≡ x
     go true = refl
@@ -32,7 +32,7 @@ one-choice a b x = go (eqb a b)
 bottom-word : (w : ℕ) → wordOf (bytes16 (kinds .false) 0 0 0) 0 w ≡ ifEq w 0 (kinds .false) 0
 bottom-word w =
     record-word (kinds .false) 0 0 0 w (omega arith) (omega arith) (omega arith) (omega arith)
-    ∙ rw (one-choice w 3 0, one-choice w 2 0, one-choice w 1 0)
+    ∙ rw (either-equal w 3 0, either-equal w 2 0, either-equal w 1 0)
 
 -- Copies.
 module _ (rd : Reader) (pf : List ℕ) (m : ℕ) where

@@ -39,7 +39,7 @@ arityOf k =
 abbrev pub lineAt : List Line → ℕ → Line
 lineAt lines r = getD lines r noLine
 
--- a choice by what a cell is: a record of the block, a premise's concluding node, no reference, or anything else
+-- selection by what a cell is: a record of the block, a premise's concluding node, no reference, or anything else
 unfoldable pub choose : {A : Type 0} → Cell → (ℕ → A) → (ℕ → A) → A → A → A
 choose none f g x y = x
 choose (part j) f g x y = y

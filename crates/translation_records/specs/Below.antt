@@ -20,7 +20,7 @@ use Rattle.translation_records.specs.Fits.{Known, cellClass, isNone, isC
 use Rattle.translation_records.specs.Lines.{Stands, chosen-less, chosen-equal, none-zero, sort-roles}
 use Rattle.translation_records.specs.Blocks.{Passed}
 
--- a choice that holds
+-- a test selected by another holds: one of the two holds
 chosen : (a b : ℕ) (x y : Bool) → ifEq a b x y ≡ true → (x ≡ true) ⊎ (y ≡ true)
 unfolding ifEq
 chosen a b x y h = go (eqb a b) h

@@ -1,4 +1,4 @@
--- A claim about a choice by a test, from those about what is chosen.
+-- A claim about what a test selects, from those about both sides.
 use Prim.Native.Nat.{ℕ, _<_, _≤_}
 use mathlib.Core.Path.{_≡_, refl}
 use mathlib.Core.Bool.{Bool, true, false}

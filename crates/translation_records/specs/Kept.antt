@@ -20,7 +20,7 @@ use Rattle.reader_laws.specs.Parts.{Part, type-part, term-part, formula-part, c
 use Rattle.reader_laws.specs.Parts.{powerset-second, application-second, application-second-given, choice-second, link-item}
 use Rattle.reader_laws.specs.Classes.{class-of-kind, term-class, link-class}
 use Rattle.reader_laws.specs.Links.{item-class}
-use Rattle.translation_rules.specs.Output.{typeRecord}
+use Rattle.translation_rules.specs.Output.{typeRecordBy, typeRecord}
 use Rattle.translation_records.specs.Choices.{choose-equal}
 use Rattle.translation_records.specs.Fits.{wordClass}
 use Rattle.translation_records.specs.Lines.{mostOf, Named}
@@ -166,7 +166,7 @@ module _ (rd ro : Reader) (last : ℕ) (sound : (i : ℕ) → 1 ≤ i → i ≤ 
 
   -- the type's record of a term
   pub type-record : (x : ℕ) → 1 ≤ x → x ≤ last → class (rd x 0) ≡ 4 → TypeAt (typeRecord rd x)
-  unfolding typeRecord
+  unfolding typeRecord typeRecordBy
   type-record x p q e =
       let s = sound x p q in
       choose-equal TypeAt (rd x 0) 7 (λ h. type-word x 1 q (constant-first 1 rd x s h)) (λ not7.

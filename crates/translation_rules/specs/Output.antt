@@ -11,14 +11,17 @@ use Rattle.reader.specs.Kinds.{modes, kinds, isRule}
 use Rattle.reader.specs.Chains.{parts, premises}
 use Rattle.translation_rules.specs.Templates.{Cell, none, part, inside, deeper, typeInside, bottom, own, conclusion, Line, template, linesOfStart}
 
+-- the record of the type of the term at record x, where its kind is k
+unfoldable pub typeRecordBy : ℕ → Reader → ℕ → ℕ
+typeRecordBy k rd x =
+    ifEq k (kinds .constant) (rd x 1)
+    (ifEq k (kinds .boundVariable) (rd x 2)
+    (ifEq k (kinds .pair) (rd x 3)
+    (ifEq k (kinds .product) (rd x 3) (ifEq k (kinds .powerset) (rd x 2) (ifEq k (kinds .choice) (rd x 2) (rd (rd x 2) 1))))))
+
 -- the record of the type of the term at record x
 unfoldable pub typeRecord : Reader → ℕ → ℕ
-typeRecord rd x =
-    ifEq (rd x 0) (kinds .constant) (rd x 1)
-    (ifEq (rd x 0) (kinds .boundVariable) (rd x 2)
-    (ifEq (rd x 0) (kinds .pair) (rd x 3)
-    (ifEq (rd x 0) (kinds .product) (rd x 3)
-    (ifEq (rd x 0) (kinds .powerset) (rd x 2) (ifEq (rd x 0) (kinds .choice) (rd x 2) (rd (rd x 2) 1))))))
+typeRecord rd x = typeRecordBy (rd x 0) rd x
 
 -- What the letters of a block stand for: the node, its parts and premises, where the block starts, and where the block of a node ends.
 pub record Letters : Type 0 where

@@ -3,17 +3,15 @@ use Prim.Native.Nat.{ℕ, _+_, _-_, _<_, _≤_}
 use mathlib.Core.Path.{_≡_, refl, _∙_}
 use mathlib.Core.List.{List}
 use lib.ListN.{getD}
-use borrow.Author.Tests.{lt-ltb, le-ltb}
+use borrow.Author.Tests.{ne-eqb, lt-ltb, le-ltb}
 use native.Mathlib.Omega.{arith}
 use Rattle.reader.specs.Words.{Reader}
 use Rattle.reader.specs.Tests.{ifEq, ifLt}
-use Rattle.reader.specs.TestLaws.{eq-no-of}
-use Rattle.reader.specs.Kinds.{kinds}
 use Rattle.reader.specs.Trees.{lower}
 use Rattle.reader.specs.Chains.{parts, premises}
 use Rattle.reader_chains.specs.Chains.{itemAt, item-items}
 use Rattle.translation_rules.specs.Templates.{Cell, none, part, inside, deeper, typeInside, bottom, own, conclusion}
-use Rattle.translation_rules.specs.Output.{typeRecord, Letters, value}
+use Rattle.translation_rules.specs.Output.{typeRecordBy, typeRecord, Letters, value}
 use Rattle.translation_lines.specs.Codes.{cellOf}
 
 -- the letters of the block of node i that starts at `base`
@@ -39,25 +37,18 @@ pub premise-is : (rd : Reader) (i j x r : ℕ) → x ≡ lower rd i 2 → r ≡ 
 unfolding premises
 premise-is rd i j x r ex er = er ∙ item-items rd j x ∙ rw ex
 
-pub type-is : (rd : Reader) (x r : ℕ) →
-    r
-    ≡ ifEq (rd x 0) (kinds .constant) (rd x 1)
-    (ifEq (rd x 0) (kinds .boundVariable) (rd x 2)
-    (ifEq (rd x 0) (kinds .pair) (rd x 3)
-    (ifEq (rd x 0) (kinds .product) (rd x 3)
-    (ifEq (rd x 0) (kinds .powerset) (rd x 2) (ifEq (rd x 0) (kinds .choice) (rd x 2) (rd (rd x 2) 1)))))) →
-    r ≡ typeRecord rd x
-unfolding typeRecord
-type-is rd x r e = e
+module _ (rd : Reader) (x k r : ℕ) (ek : k ≡ rd x 0) where
+  -- by the arm of kind c
+  pub type-as : (c : ℕ) → k ≡ c → r ≡ typeRecordBy c rd x → r ≡ typeRecord rd x
+  unfolding typeRecord
+  type-as c e h = rw (← ek, e) h
 
--- an application's type is the first of its chain of types
-pub type-of-application : (rd : Reader) (x k y r : ℕ) → k ≡ rd x 0 → (k ≡ 7 → ⊥) → (k ≡ 9 → ⊥) → (k ≡ 10 → ⊥) → (k ≡ 11 → ⊥) → (k ≡ 12 → ⊥) →
-    (k ≡ 23 → ⊥) → y ≡ rd x 2 → r ≡ rd y 1 → r ≡ typeRecord rd x
-type-of-application rd x k y r ek p q s t u v ey er =
-    type-is rd x r
-    (eq-no-of _ _ _ _ r k ek p
-    (eq-no-of _ _ _ _ r k ek q
-    (eq-no-of _ _ _ _ r k ek s (eq-no-of _ _ _ _ r k ek t (eq-no-of _ _ _ _ r k ek u (eq-no-of _ _ _ _ r k ek v (rw (← ey) er)))))))
+  -- an application's type is the first of its chain of types
+  pub type-of-application : (k ≡ 7 → ⊥) → (k ≡ 9 → ⊥) → (k ≡ 10 → ⊥) → (k ≡ 11 → ⊥) → (k ≡ 12 → ⊥) → (k ≡ 23 → ⊥) →
+      (y : ℕ) → y ≡ rd x 2 → r ≡ rd y 1 → r ≡ typeRecord rd x
+  unfolding typeRecord typeRecordBy ifEq
+  type-of-application a b c d e f y ey er =
+      rw (← ek) (simp (ifEq, ne-eqb k 7 a, ne-eqb k 9 b, ne-eqb k 10 c, ne-eqb k 11 d, ne-eqb k 12 e, ne-eqb k 23 f) (rw (← ey) er))
 
 -- The ways out of `value_of`, by the byte.
 module _ (rd : Reader) (table : List ℕ) (i base c : ℕ) where

@@ -46,25 +46,16 @@ fn type_at(obligation: &[u8], proof: &[u8], m: usize, x: usize) -> usize
     ensures { λ r. ⌜ r ≡ typeRecord (word (now (obligation .entry)) (now (proof .entry)) m) x ⌝ }
 {
     let record = views::record_of(obligation, proof, m, x);
-    if record.kind == 7 {
-        return record.a;
+    let kind = record.kind;
+    match kind {
+        7 => record.a,
+        9 => record.b,
+        10 => record.c,
+        11 => record.c,
+        12 => record.b,
+        23 => record.b,
+        _ => words::word_at(obligation, proof, m, record.b, 1),
     }
-    if record.kind == 9 {
-        return record.b;
-    }
-    if record.kind == 10 {
-        return record.c;
-    }
-    if record.kind == 11 {
-        return record.c;
-    }
-    if record.kind == 12 {
-        return record.b;
-    }
-    if record.kind == 23 {
-        return record.b;
-    }
-    words::word_at(obligation, proof, m, record.b, 1)
 }
 
 // The value of a cell that looks into part 0, or of the node itself.

@@ -1,7 +1,7 @@
 use borrow.Author.Needs.{needs}
 use Rattle.reader.specs.Tests.{ifEq}
 use Rattle.reader.specs.Typing.{typingOf}
-use Rattle.reader_typing.specs.Records.{typed-as, not-typed}
+use Rattle.reader_typing.specs.Records.{typed-as, nothing-asked}
 use Rattle.reader_typing.proofs.records.is_typed.Statement.{statement}
 use Rattle.reader_typing.proofs.records.is_typed.Tie as tie
 
@@ -55,4 +55,4 @@ is-typed-spec = tie.close (tie.spec
     -- returns, kind by kind: choice-typed
     (λ c. (search typed-as, c .before .before .before .before .before .before .before .pre .1))
     -- returns, another kind
-    (λ c. (search not-typed, c .before .before .before .before .before .before .pre .1)))
+    (λ c. (search nothing-asked, c .before .before .before .before .before .before .pre .1)))

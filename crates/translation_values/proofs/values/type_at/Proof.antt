@@ -1,26 +1,28 @@
 use borrow.Author.Needs.{needs}
-use Rattle.reader.specs.TestLaws.{ifs-of}
-use Rattle.translation_values.specs.Values.{type-is, type-of-application}
+use Rattle.reader.specs.Tests.{ifEq}
+use Rattle.translation_rules.specs.Output.{typeRecordBy}
+use Rattle.translation_values.specs.Values.{type-as, type-of-application}
 use Rattle.translation_values.proofs.values.type_at.Statement.{statement}
 use Rattle.translation_values.proofs.values.type_at.Tie as tie
 
 pub type-at-spec : {M : Type 1} → statement M
+unfolding typeRecordBy ifEq
 type-at-spec = tie.close (tie.spec
     -- record-of-requires
     (λ c κs. search needs)
-    -- returns
-    (λ c. search (type-is, ifs-of))
-    -- returns-2
-    (λ c. search (type-is, ifs-of))
-    -- returns-3
-    (λ c. search (type-is, ifs-of))
-    -- returns-4
-    (λ c. search (type-is, ifs-of))
-    -- returns-5
-    (λ c. search (type-is, ifs-of) depth 8)
-    -- returns-6
-    (λ c. search (type-is, ifs-of) depth 9)
     -- word-at-requires
     (λ c κs. search needs)
-    -- returns-7
+    -- returns, for a constant
+    (λ c. search type-as)
+    -- returns, for a bound variable
+    (λ c. search type-as)
+    -- returns, for a pair
+    (λ c. search type-as)
+    -- returns, for a product
+    (λ c. search type-as)
+    -- returns, for a powerset
+    (λ c. search type-as)
+    -- returns, for a choice
+    (λ c. search type-as)
+    -- returns, for an application
     (λ c. search type-of-application))
