@@ -37,18 +37,17 @@ pub premise-is : (rd : Reader) (i j x r : ℕ) → x ≡ lower rd i 2 → r ≡ 
 unfolding premises
 premise-is rd i j x r ex er = er ∙ item-items rd j x ∙ rw ex
 
-module _ (rd : Reader) (x k r : ℕ) (ek : k ≡ rd x 0) where
-  -- by the arm of kind c
-  pub type-as : (c : ℕ) → k ≡ c → r ≡ typeRecordBy c rd x → r ≡ typeRecord rd x
-  unfolding typeRecord
-  type-as c e h = rw (← ek, e) h
+-- by the arm of kind c
+pub type-as : (c : ℕ) (rd : Reader) (x k r : ℕ) → k ≡ rd x 0 → k ≡ c → r ≡ typeRecordBy c rd x → r ≡ typeRecord rd x
+unfolding typeRecord
+type-as c rd x k r ek e h = rw (← ek, e) h
 
-  -- an application's type is the first of its chain of types
-  pub type-of-application : (k ≡ 7 → ⊥) → (k ≡ 9 → ⊥) → (k ≡ 10 → ⊥) → (k ≡ 11 → ⊥) → (k ≡ 12 → ⊥) → (k ≡ 23 → ⊥) →
-      (y : ℕ) → y ≡ rd x 2 → r ≡ rd y 1 → r ≡ typeRecord rd x
-  unfolding typeRecord typeRecordBy ifEq
-  type-of-application a b c d e f y ey er =
-      rw (← ek) (simp (ifEq, ne-eqb k 7 a, ne-eqb k 9 b, ne-eqb k 10 c, ne-eqb k 11 d, ne-eqb k 12 e, ne-eqb k 23 f) (rw (← ey) er))
+-- by the last arm: an application's type is the first of its chain of types
+pub type-of-application : (rd : Reader) (x k y r : ℕ) → k ≡ rd x 0 → (k ≡ 7 → ⊥) → (k ≡ 9 → ⊥) → (k ≡ 10 → ⊥) → (k ≡ 11 → ⊥) → (k ≡ 12 → ⊥) →
+    (k ≡ 23 → ⊥) → y ≡ rd x 2 → r ≡ rd y 1 → r ≡ typeRecord rd x
+unfolding typeRecord typeRecordBy ifEq
+type-of-application rd x k y r ek a b c d e f ey er =
+    rw (← ek) (simp (ifEq, ne-eqb k 7 a, ne-eqb k 9 b, ne-eqb k 10 c, ne-eqb k 11 d, ne-eqb k 12 e, ne-eqb k 23 f) (rw (← ey) er))
 
 -- The ways out of `value_of`, by the byte.
 module _ (rd : Reader) (table : List ℕ) (i base c : ℕ) where

@@ -13,16 +13,16 @@ type-at-spec = tie.close (tie.spec
     -- word-at-requires
     (λ c κs. search needs)
     -- returns, for a constant
-    (λ c. search type-as)
+    (λ c. search (type-as 7))
     -- returns, for a bound variable
-    (λ c. search type-as)
+    (λ c. search (type-as 9))
     -- returns, for a pair
-    (λ c. search type-as)
+    (λ c. search (type-as 10))
     -- returns, for a product
-    (λ c. search type-as)
+    (λ c. search (type-as 11))
     -- returns, for a powerset
-    (λ c. search type-as)
+    (λ c. search (type-as 12))
     -- returns, for a choice
-    (λ c. search type-as)
+    (λ c. search (type-as 23))
     -- returns, for an application
     (λ c. search type-of-application))
