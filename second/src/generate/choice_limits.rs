@@ -5,7 +5,7 @@ use super::choices::*;
 use super::expr::*;
 use super::gadgets::{Bench, Place};
 use super::limits::{base, instance_cases, limit, with_records, write, Limit, PLACES};
-use super::refute::Script;
+use super::refute::{node, Script};
 use super::rng::Rng;
 use super::set5;
 use super::world::World;
@@ -161,12 +161,10 @@ fn with_root(
     ));
 }
 
-/// choice(x) = choice(x) for an index of the set type, under so many binders of it.
+/// choice(x) = choice(x) for an index of sets of the type, under so many binders of them.
 fn about_index(b: &mut Bench, index: u32, binders: usize, ty: u32) -> u32 {
     let set = b.push(SET_TYPE, ty, 0, 0);
-    let x = b.push(BOUND, index, set, 0);
-    let chosen = b.push(CHOICE, x, ty, 0);
-    let same = b.push(EQUAL, chosen, chosen, 0);
+    let same = chosen_is_itself(b, index, set, ty);
     (0..binders).fold(same, |f, _| b.push(ALL, set, f, 0))
 }
 
@@ -309,14 +307,6 @@ impl Kit {
             (all_types(4, self.is_c(&of_other)), false),
         ]
     }
-}
-
-fn refl(term: &Expr) -> Expr {
-    equal(term.clone(), term.clone())
-}
-
-fn node(kind: u32, parts: &[&Expr], premises: Vec<Script>) -> Script {
-    Script::new(kind, parts.iter().map(|&p| p.clone()).collect(), premises)
 }
 
 /// A proof or derivation by a script whose root is refused with the number, or accepted for 0.

@@ -138,11 +138,16 @@ pub fn right_choice(b: &mut Bench, which: usize) {
     };
 }
 
+/// choice(x) = choice(x) for an index x, with the type that x bears and the own type of the choice.
+pub fn chosen_is_itself(b: &mut Bench, index: u32, set: u32, own: u32) -> u32 {
+    let x = b.push(BOUND, index, set, 0);
+    let chosen = b.push(CHOICE, x, own, 0);
+    b.push(EQUAL, chosen, chosen, 0)
+}
+
 /// ∀ over the type about a variable beneath a choice, under so many further binders.
 fn quantified(b: &mut Bench, ty: u32, borne: u32, own: u32, further: u32) -> u32 {
-    let x = b.push(BOUND, further, borne, 0);
-    let chosen = b.push(CHOICE, x, own, 0);
-    let same = b.push(EQUAL, chosen, chosen, 0);
+    let same = chosen_is_itself(b, further, borne, own);
     let inner = (0..further).fold(same, |f, _| b.push(ALL, own, f, 0));
     b.push(ALL, ty, inner, 0)
 }

@@ -4,7 +4,7 @@
 use super::expect::Expect;
 use super::expr::*;
 use super::proofs::Draft;
-use super::refute::Script;
+use super::refute::{node, Script};
 use super::set5::over_sets;
 use super::world::World;
 
@@ -81,14 +81,6 @@ impl Kit {
     fn all_are(&self, term: &Expr) -> Expr {
         self.over_sets(equal(self.of_y.clone(), term.clone()))
     }
-}
-
-fn node(kind: u32, parts: &[&Expr], premises: Vec<Script>) -> Script {
-    Script::new(kind, parts.iter().map(|&p| p.clone()).collect(), premises)
-}
-
-fn refl(term: &Expr) -> Expr {
-    equal(term.clone(), term.clone())
 }
 
 /// A formula that a cut brings in, and the node that has it as a member.
