@@ -4,11 +4,10 @@ use super::gadgets::{kit, wrong_class, wrong_reference, Bench, Kit};
 use crate::kinds::*;
 
 /// No kinds, though next to the choice's.
-pub const NO_KINDS: std::ops::RangeInclusive<u32> = 24..=31;
+pub const NO_KINDS: [u32; 8] = [24, 25, 26, 27, 28, 29, 30, 31];
 
 pub fn kind(b: &mut Bench) -> u64 {
-    let first = *NO_KINDS.start();
-    let kind = first + b.choose(NO_KINDS.count()) as u32;
+    let kind = *b.rng.pick(&NO_KINDS);
     b.again_with(CHOICE, 0, kind);
     3
 }

@@ -278,30 +278,8 @@ fn halvings(mut weight: u64) -> Vec<bool> {
 }
 
 fn kind(b: &mut Bench) -> u64 {
-    let list = [
-        0,
-        24,
-        25,
-        26,
-        27,
-        28,
-        29,
-        30,
-        31,
-        47,
-        48,
-        60,
-        63,
-        81,
-        82,
-        100,
-        256,
-        257,
-        270,
-        288,
-        65_536,
-        1 << 24,
-    ];
+    let past = [81, 82, 100, 256, 257, 270, 288, 65_536, 1 << 24];
+    let list = [&[0][..], &choices::NO_KINDS, &[47, 48, 60, 63], &past].concat();
     let kind = match b.choose(4) {
         0 => b.rng.word() | 128,
         1 => u32::MAX,
