@@ -27,7 +27,7 @@ fn covers(kind: Second) {
     covers_choices(&coverage);
 }
 
-/// Choices stand in every place of accepted files, and are at fault in every way.
+/// Choices stand in every place of accepted files, and are at fault at 4, 5, 7, 10 and 13 to 16.
 fn covers_choices(coverage: &Coverage) {
     let choices = &coverage.choices;
     assert!(choices.accepted * 4 > coverage.accepted);
