@@ -1,4 +1,4 @@
-//! How well generated cases cover the refusals and the rules.
+//! How well generated cases cover the refusals, the rules and the places of choices.
 
 use crate::generate::{derivation_case, promised, proof_case, Case};
 use crate::kinds::CHOICE;

@@ -1,6 +1,6 @@
 //! Where choice terms stand in a case. A generator that forgets a place shows in the counts.
 
-use crate::arena::{Head, Id, Seen, NONE};
+use crate::arena::{Id, Seen, NONE};
 use crate::kinds::*;
 use crate::reader::{self, Book, Second};
 use crate::words::{self, Record};
@@ -104,13 +104,14 @@ pub fn of_case(obligation: &[u8], second: &[u8], kind: Second) -> Found {
     }
 }
 
-/// Whether a refusal is about a choice: its record is one, or a part of its node has one.
+/// Whether a refusal is about a choice: its record is one, or a part of its node has one. A choice can be the record of
+/// 4, 5, 7 and 10 only: 3 is for other kinds, 6, 8 and 9 are for symbols and applications.
 pub fn is_at_fault(obligation: &[u8], second: &[u8], kind: Second, answer: Answer) -> bool {
     let records = [obligation, second].map(words::records);
     let first = records[0].len() as u64;
     let number = answer.record;
     match answer.refusal {
-        3..=10 => {
+        4 | 5 | 7 | 10 => {
             let record = match answer.file {
                 1 => records[0].get(number as usize),
                 _ => records[1].get((number + 1 - first) as usize),
@@ -171,11 +172,17 @@ impl<'a> Survey<'a> {
     }
 
     /// The formula that kind 22 reads as in derivations.
-    fn formula(&self, number: u32) -> Record {
+    fn formula(&self, number: u32) -> u32 {
         match self.record(number) {
-            Record { kind, b, .. } if kind == ALL_TYPES => self.record(b),
-            record => record,
+            Record { kind, b, .. } if kind == ALL_TYPES => b,
+            _ => number,
         }
+    }
+
+    /// The first two words of a record of this kind.
+    fn words(&self, number: u32, kind: u32) -> Option<[u32; 2]> {
+        let record = self.record(number);
+        (record.kind == kind).then_some([record.a, record.b])
     }
 
     fn id(&self, number: u32) -> Id {
@@ -229,9 +236,8 @@ impl<'a> Survey<'a> {
             (46, &[body, t, u, ..]) => self.replaced(body, [t, u]),
             (79, &[body, equation, _]) => {
                 // The node may be one that is refused.
-                let Record { kind, a, b, .. } = self.formula(equation);
-                if kind == EQUAL {
-                    self.replaced(body, [a, b]);
+                if let Some(sides) = self.words(self.formula(equation), EQUAL) {
+                    self.replaced(body, sides);
                 }
             }
             _ => {}
@@ -337,17 +343,23 @@ impl<'a> Survey<'a> {
         }
     }
 
-    /// ∀s·(P ⇒ choice(s) ∈ s), whatever P is.
+    /// SET5 for sets of any type, ∀s·(¬∀x·¬(x ∈ s) ⇒ choice(s) ∈ s): s is index 1 within ∀x, else index 0.
     fn is_set5(&self, all: u32) -> bool {
-        let under = |record: Record, kind: u32| match record.kind == kind {
-            true => Some(self.record(record.b)),
-            false => None,
-        };
-        let implied = under(self.formula(all), ALL).and_then(|body| under(body, IMPLIES));
-        implied.is_some_and(|Record { kind, a, b, .. }| {
-            let (chosen, set) = (self.record(a), self.id(b));
-            let heads = (kind, chosen.kind, self.book.arena.head(set));
-            heads == (IN, CHOICE, Head::Bound(0)) && self.record(chosen.a).kind == BOUND
-        })
+        let index = |variable: u32| self.words(variable, BOUND).map(|[index, _]| index);
+        let variables = self.variables_of_set5(all);
+        variables.is_some_and(|list| list.map(index) == [0, 1, 0, 0].map(Some))
+    }
+
+    /// The terms where SET5 has x, s, s and s, in a formula with its signs.
+    fn variables_of_set5(&self, all: u32) -> Option<[u32; 4]> {
+        let [_, implied] = self.words(self.formula(all), ALL)?;
+        let [not_empty, chosen_in] = self.words(implied, IMPLIES)?;
+        let [empty, _] = self.words(not_empty, NOT)?;
+        let [_, not_in] = self.words(empty, ALL)?;
+        let [x_in, _] = self.words(not_in, NOT)?;
+        let [x, s_within] = self.words(x_in, IN)?;
+        let [chosen, s] = self.words(chosen_in, IN)?;
+        let [s_of_choice, _] = self.words(chosen, CHOICE)?;
+        Some([x, s_within, s_of_choice, s])
     }
 }

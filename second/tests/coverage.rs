@@ -1,9 +1,13 @@
 //! Many generated cases: what they cover, and that labels keep their promises.
 
 use second::coverage::{rules, Coverage};
+use second::generate::expr::{all, bottom, bound, choice, given, implies, member, not};
 use second::generate::limits::limits;
+use second::generate::rng::Rng;
+use second::generate::world::World;
+use second::generate::writer::Writer;
 use second::generate::{derivation_case, large_cases, promised, proof_case};
-use second::positions::Position;
+use second::positions::{of_case, Position};
 use second::reader::Second;
 
 const SEEDS: u64 = 20_000;
@@ -23,7 +27,7 @@ fn covers(kind: Second) {
     covers_choices(&coverage);
 }
 
-/// Choices stand in every place of accepted files, and are at fault in every way.
+/// Choices stand in every place of accepted files, and are at fault at 4, 5, 7, 10 and 13 to 16.
 fn covers_choices(coverage: &Coverage) {
     let choices = &coverage.choices;
     assert!(choices.accepted * 4 > coverage.accepted);
@@ -50,6 +54,30 @@ fn proofs() {
 #[test]
 fn derivations() {
     covers(Second::Derivation);
+}
+
+/// Of the formulas with SET5's signs and index 0 or 1 for each variable, the axiom alone is counted.
+#[test]
+fn set5_by_its_indices() {
+    let (world, ty) = (World::bare(), given(0));
+    for indices in 0..16u32 {
+        let variable = |place: u32| bound(indices >> place & 1, ty.clone());
+        let empty = all(ty.clone(), not(member(variable(0), variable(1))));
+        let chosen = member(choice(variable(2), ty.clone()), variable(3));
+        let formula = all(ty.clone(), implies(not(empty), chosen));
+        let mut w = Writer::new(Rng::new(0));
+        let goal = w.write(&world, &not(bottom()));
+        w.end_obligation(false);
+        let parts = [&formula, &variable(0)].map(|part| w.write(&world, part));
+        let chain = w.chain(&parts);
+        let root = w.push(78, chain, 0, 0);
+        let (obligation, second) = w.files(0, goal, root);
+        let found = of_case(&obligation, &second, Second::Derivation);
+        assert!(found.positions.contains(&Position::Part));
+        // Index 1 for s within ∀x only.
+        let is_set5 = found.positions.contains(&Position::Set5);
+        assert_eq!(is_set5, indices == 0b0010, "{indices:04b}");
+    }
 }
 
 /// Large accepted files in number, with all rules, and near misses of them.
@@ -111,7 +139,7 @@ fn the_same_seed_makes_the_same_case() {
 /// Bytes without any sense, and cases cut and joined: no panic, and the reader agrees with the check.
 #[test]
 fn any_bytes() {
-    let mut rng = second::generate::rng::Rng::new(7);
+    let mut rng = Rng::new(7);
     for round in 0..4_000u64 {
         let case = match round % 2 {
             0 => proof_case(round),

@@ -1,5 +1,6 @@
 //! Damage to the bytes of written files: lengths, headers, words.
 
+use super::choices::NO_KINDS;
 use super::expect::Expect;
 use super::rng::Rng;
 use crate::kinds::*;
@@ -131,7 +132,7 @@ pub fn word_damage(rng: &mut Rng, obligation: &mut [u8], second: &mut [u8]) {
     }
 }
 
-/// One word of a choice that is in use changed; None if there is no choice.
+/// One word of any choice changed, whether another record names it or not; None if there is no choice.
 pub fn choice_damage(
     rng: &mut Rng,
     kind: Second,
@@ -162,7 +163,7 @@ fn damage_choice(rng: &mut Rng, file: &mut [u8], record: usize, base: u32, typed
     let [s, own] = [1, 2].map(|word| word_at(file, 4 * record + word));
     let any_smaller = rng.range(1, number as usize - 1) as u32;
     let not_smaller = *rng.pick(&[0, number, number + 1, number ^ 1 << 31]);
-    let no_kind = rng.range(24, 31) as u32;
+    let no_kind = *rng.pick(&NO_KINDS);
     let (word, value, expect) = match rng.below(9) {
         0 => (0, no_kind, Expect::Refusal(3)),
         1 => (3, *rng.pick(&[1, s, own, number]), Expect::Refusal(4)),

@@ -5,7 +5,7 @@ use super::choices::*;
 use super::expr::*;
 use super::gadgets::{Bench, Place};
 use super::limits::{base, instance_cases, limit, with_records, write, Limit, PLACES};
-use super::refute::Script;
+use super::refute::{node, Script};
 use super::rng::Rng;
 use super::set5;
 use super::world::World;
@@ -161,12 +161,10 @@ fn with_root(
     ));
 }
 
-/// choice(x) = choice(x) for an index of the set type, under so many binders of it.
+/// choice(x) = choice(x) for an index of sets of the type, under so many binders of them.
 fn about_index(b: &mut Bench, index: u32, binders: usize, ty: u32) -> u32 {
     let set = b.push(SET_TYPE, ty, 0, 0);
-    let x = b.push(BOUND, index, set, 0);
-    let chosen = b.push(CHOICE, x, ty, 0);
-    let same = b.push(EQUAL, chosen, chosen, 0);
+    let same = chosen_is_itself(b, index, set, ty);
     (0..binders).fold(same, |f, _| b.push(ALL, set, f, 0))
 }
 
@@ -311,18 +309,10 @@ impl Kit {
     }
 }
 
-fn refl(term: &Expr) -> Expr {
-    equal(term.clone(), term.clone())
-}
-
-fn node(kind: u32, parts: &[&Expr], premises: Vec<Script>) -> Script {
-    Script::new(kind, parts.iter().map(|&p| p.clone()).collect(), premises)
-}
-
 /// A proof or derivation by a script whose root is refused with the number, or accepted for 0.
 fn walk(
     list: &mut Vec<Limit>,
-    k: &Kit,
+    world: &World,
     label: String,
     files: (&[Expr], &Expr),
     script: Script,
@@ -338,7 +328,7 @@ fn walk(
     let root = tree.add(0, vec![]);
     script.plant(&mut tree, root);
     let (hypotheses, goal) = files;
-    let (files, records) = write(&k.world, hypotheses, &not(goal.clone()), &tree, untyped);
+    let (files, records) = write(world, hypotheses, &not(goal.clone()), &tree, untyped);
     let answer = match refusal {
         0 => Answer::accepted(tree.nodes.len() as u64),
         _ => Answer::new(refusal, 2, records[root] as u64, 1),
@@ -356,16 +346,10 @@ fn freshness(list: &mut Vec<Limit>) {
         let close = node(35, &[&not(instance.clone())], vec![]);
         let proof = node(43, &[&not(k.every()), &k.s, &instance], vec![close]);
         let derivation = node(77, &[&k.s, &instance], vec![r10()]);
+        let files = (&[member][..], &k.every());
         for script in [proof, derivation] {
             let label = format!("constant in choices of member {number}: {has_s}");
-            walk(
-                list,
-                &k,
-                label,
-                (std::slice::from_ref(&member), &k.every()),
-                script,
-                refusal,
-            );
+            walk(list, &k.world, label, files, script, refusal);
         }
     }
     // In the quantified formula itself.
@@ -376,7 +360,7 @@ fn freshness(list: &mut Vec<Limit>) {
     let derivation = node(77, &[&k.s, &instance], vec![r10()]);
     for script in [proof, derivation] {
         let label = String::from("constant in a choice of the goal");
-        walk(list, &k, label, (&[], &goal), script, 16);
+        walk(list, &k.world, label, (&[], &goal), script, 16);
     }
 }
 
@@ -394,7 +378,7 @@ fn asked_for_a_constant(list: &mut Vec<Limit>) {
         let derivation = node(77, &[term, &instance], vec![node(80, &[], vec![])]);
         for script in [proof, derivation] {
             let label = format!("term {number} for a constant");
-            walk(list, &k, label, (&[], &goal), script, refusal);
+            walk(list, &k.world, label, (&[], &goal), script, refusal);
         }
     }
 }
@@ -412,8 +396,8 @@ fn types_of_places(list: &mut Vec<Limit>) {
             let derivation = node(78, &[&over, term], vec![node(66, &[], vec![])]);
             let label = format!("choice at a place of type {place}");
             let files = (&[over][..], &bottom());
-            walk(list, &k, label.clone(), files, proof, refusal);
-            walk(list, &k, label, files, derivation, 0);
+            walk(list, &k.world, label.clone(), files, proof, refusal);
+            walk(list, &k.world, label, files, derivation, 0);
         }
     }
 }
@@ -429,7 +413,7 @@ fn equal_choices(list: &mut Vec<Limit>) {
             let proof = node(35, &[&not(goal.clone())], vec![]);
             for script in [proof, node(80, &[], vec![])] {
                 let label = format!("terms {i} and {j} as equal");
-                walk(list, &k, label, (&[], &goal), script, refusal);
+                walk(list, &k.world, label, (&[], &goal), script, refusal);
             }
         }
     }
@@ -466,10 +450,10 @@ fn replaced_terms(list: &mut Vec<Limit>) {
         let proof = node(46, &[body, t, u, with_t, with_u], vec![closed(), denied()]);
         let br3 = || node(66, &[], vec![]);
         let derivation = node(79, &[body, &equation, with_t], vec![br3(), br3()]);
-        let hypotheses = [with_t.clone(), equation.clone()];
+        let files = (&[with_t.clone(), equation.clone()][..], with_u);
         for script in [proof, derivation] {
             let label = format!("replaced by or beneath choices {number}");
-            walk(list, &k, label, (&hypotheses, with_u), script, refusal);
+            walk(list, &k.world, label, files, script, refusal);
         }
     }
 }
@@ -513,12 +497,10 @@ fn axioms(list: &mut Vec<Limit>) {
     for seed in 0..12 {
         let mut world = World::new(Rng::new(seed));
         let (hypotheses, script) = set5::core(&mut world);
-        let k = Kit { world, ..kit() };
         let label = format!("SET5 {seed}");
-        walk(list, &k, label.clone(), (&hypotheses, &top()), script, 0);
-        let mut world = k.world;
+        let files = (&hypotheses[..], &top());
+        walk(list, &world, label.clone(), files, script, 0);
         let (hypotheses, goal, script) = set5::derivable(&mut world);
-        let k = Kit { world, ..kit() };
-        walk(list, &k, label, (&hypotheses, &goal), script, 0);
+        walk(list, &world, label, (&hypotheses, &goal), script, 0);
     }
 }

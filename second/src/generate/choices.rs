@@ -4,11 +4,10 @@ use super::gadgets::{kit, wrong_class, wrong_reference, Bench, Kit};
 use crate::kinds::*;
 
 /// No kinds, though next to the choice's.
-pub const NO_KINDS: std::ops::RangeInclusive<u32> = 24..=31;
+pub const NO_KINDS: [u32; 8] = [24, 25, 26, 27, 28, 29, 30, 31];
 
 pub fn kind(b: &mut Bench) -> u64 {
-    let first = *NO_KINDS.start();
-    let kind = first + b.choose(NO_KINDS.count()) as u32;
+    let kind = *b.rng.pick(&NO_KINDS);
     b.again_with(CHOICE, 0, kind);
     3
 }
@@ -138,11 +137,16 @@ pub fn right_choice(b: &mut Bench, which: usize) {
     };
 }
 
+/// choice(x) = choice(x) for an index x, with the type that x bears and the own type of the choice.
+pub fn chosen_is_itself(b: &mut Bench, index: u32, set: u32, own: u32) -> u32 {
+    let x = b.push(BOUND, index, set, 0);
+    let chosen = b.push(CHOICE, x, own, 0);
+    b.push(EQUAL, chosen, chosen, 0)
+}
+
 /// ∀ over the type about a variable beneath a choice, under so many further binders.
 fn quantified(b: &mut Bench, ty: u32, borne: u32, own: u32, further: u32) -> u32 {
-    let x = b.push(BOUND, further, borne, 0);
-    let chosen = b.push(CHOICE, x, own, 0);
-    let same = b.push(EQUAL, chosen, chosen, 0);
+    let same = chosen_is_itself(b, further, borne, own);
     let inner = (0..further).fold(same, |f, _| b.push(ALL, own, f, 0));
     b.push(ALL, ty, inner, 0)
 }

@@ -17,6 +17,18 @@ fn node(kind: u32, parts: Vec<Expr>, premises: Vec<Script>) -> Script {
     Script::new(kind, parts, premises)
 }
 
+fn br3() -> Script {
+    node(66, vec![], vec![])
+}
+
+fn br6() -> Script {
+    node(68, vec![], vec![])
+}
+
+fn r10() -> Script {
+    node(80, vec![], vec![])
+}
+
 pub fn draft(world: &mut World, shape: Shape) -> Draft {
     match world.rng.chance(45) && shape.budget < 1_000 {
         true => forwards(world, shape),
@@ -36,78 +48,96 @@ struct Core {
     no: Script,
 }
 
+impl Core {
+    fn new(typed: Vec<Expr>, p: Expr, yes: Script, no: Script) -> Core {
+        Core {
+            members: typed.iter().map(Expr::plain).collect(),
+            typed,
+            p: p.plain(),
+            yes: yes.plain(),
+            no: no.plain(),
+        }
+    }
+}
+
 fn core(world: &mut World) -> Core {
-    let br3 = || node(66, vec![], vec![]);
     let f = world.closed_formula(1);
     let ty = world.closed_type(1);
     let t = world.term(&ty, &Scope::default(), 1);
     let u = world.term(&ty, &Scope::default(), 1);
-    let set5 = world.choices > 0 && world.rng.chance(25);
-    let (typed, p, yes, no) = match world.rng.below(9) {
-        _ if set5 => {
-            let (mut typed, chosen, yes) = set5::derivable(world);
-            typed.push(not(chosen.clone()));
-            (typed, chosen, yes, br3())
-        }
-        0 => (vec![bottom()], bottom(), br3(), node(68, vec![], vec![])),
-        1 => (vec![not(top())], top(), node(68, vec![], vec![]), br3()),
-        2 => {
-            let same = equal(t.clone(), t);
-            (
-                vec![not(same.clone())],
-                same,
-                node(80, vec![], vec![]),
-                br3(),
-            )
-        }
-        3 => {
-            let both = and(f.clone(), not(f.clone()));
-            let yes = node(71, vec![both.clone()], vec![br3()]);
-            let no = node(72, vec![both.clone()], vec![br3()]);
-            (vec![both], f, yes, no)
-        }
-        4 => {
-            let wrong = implies(f.clone(), bottom());
-            let rule = match world.rng.chance(50) {
-                true => node(69, vec![wrong.clone()], vec![br3(), br3()]),
-                false => node(74, vec![wrong.clone()], vec![br3()]),
-            };
-            (vec![f, wrong], bottom(), rule, node(68, vec![], vec![]))
-        }
-        5 => {
-            let wrong = all(ty, bottom());
-            let yes = node(78, vec![wrong.clone(), t], vec![br3()]);
-            (vec![wrong], bottom(), yes, node(68, vec![], vec![]))
-        }
-        6 => {
-            // u=t from t=u: B is "index 0 = t".
-            let equation = equal(t.clone(), u.clone());
-            let turned = equal(u, t.clone());
-            let body = equal(bound(0, ty), t.clone());
-            let same = equal(t.clone(), t);
-            let parts = vec![body, equation.clone(), same];
-            let yes = node(79, parts, vec![br3(), node(80, vec![], vec![])]);
-            (vec![equation, not(turned.clone())], turned, yes, br3())
-        }
-        7 => {
-            let wrong = world.polymorphic(1);
-            let body = wrong.child(0);
-            let closed = match body.variables() == 0 {
-                true => body,
-                false => bottom(),
-            };
-            let h = all_types(2, closed.clone());
-            (vec![h, not(closed.clone())], closed, br3(), br3())
-        }
-        _ => (vec![f.clone(), not(f.clone())], f, br3(), br3()),
-    };
-    Core {
-        members: typed.iter().map(Expr::plain).collect(),
-        typed,
-        p: p.plain(),
-        yes: yes.plain(),
-        no: no.plain(),
+    let by_set5 = world.choices > 0 && world.rng.chance(25);
+    // Drawn in either case, so that a seed keeps its case.
+    let which = world.rng.below(9);
+    if by_set5 {
+        return unchosen(world);
     }
+    match which {
+        0 => Core::new(vec![bottom()], bottom(), br3(), br6()),
+        1 => Core::new(vec![not(top())], top(), br6(), br3()),
+        2 => {
+            let same = refl(&t);
+            Core::new(vec![not(same.clone())], same, r10(), br3())
+        }
+        3 => and_not_itself(f),
+        4 => implies_bottom(world, f),
+        5 => bottom_for_all(ty, t),
+        6 => equal_one_way(ty, t, u),
+        7 => denied_for_all_types(world),
+        _ => Core::new(vec![f.clone(), not(f.clone())], f, br3(), br3()),
+    }
+}
+
+/// SET5, an element of s, and ¬(choice(s) ∈ s).
+fn unchosen(world: &mut World) -> Core {
+    let (mut typed, chosen, yes) = set5::derivable(world);
+    typed.push(not(chosen.clone()));
+    Core::new(typed, chosen, yes, br3())
+}
+
+/// P ∧ ¬P.
+fn and_not_itself(p: Expr) -> Core {
+    let both = and(p.clone(), not(p.clone()));
+    let yes = node(71, vec![both.clone()], vec![br3()]);
+    let no = node(72, vec![both.clone()], vec![br3()]);
+    Core::new(vec![both], p, yes, no)
+}
+
+/// P and P ⇒ ⊥.
+fn implies_bottom(world: &mut World, p: Expr) -> Core {
+    let wrong = implies(p.clone(), bottom());
+    let yes = match world.rng.chance(50) {
+        true => node(69, vec![wrong.clone()], vec![br3(), br3()]),
+        false => node(74, vec![wrong.clone()], vec![br3()]),
+    };
+    Core::new(vec![p, wrong], bottom(), yes, br6())
+}
+
+/// ∀x·⊥ for x of a type that a term has.
+fn bottom_for_all(ty: Expr, term: Expr) -> Core {
+    let wrong = all(ty, bottom());
+    let yes = node(78, vec![wrong.clone(), term], vec![br3()]);
+    Core::new(vec![wrong], bottom(), yes, br6())
+}
+
+/// t=u and ¬(u=t): B is "index 0 = t".
+fn equal_one_way(ty: Expr, t: Expr, u: Expr) -> Core {
+    let equation = equal(t.clone(), u.clone());
+    let turned = equal(u, t.clone());
+    let body = equal(bound(0, ty), t.clone());
+    let parts = vec![body, equation.clone(), refl(&t)];
+    let yes = node(79, parts, vec![br3(), r10()]);
+    Core::new(vec![equation, not(turned.clone())], turned, yes, br3())
+}
+
+/// P as kind 22, which reads as its formula, and ¬P.
+fn denied_for_all_types(world: &mut World) -> Core {
+    let body = world.polymorphic(1).child(0);
+    let p = match body.variables() == 0 {
+        true => body,
+        false => bottom(),
+    };
+    let typed = vec![all_types(2, p.clone()), not(p.clone())];
+    Core::new(typed, p, br3(), br3())
 }
 
 impl Script {
@@ -296,10 +326,10 @@ impl Maker<'_> {
                 return self.by_member(goal);
             }
             if goal.is_not(BOTTOM) {
-                return node(68, vec![], vec![]);
+                return br6();
             }
             if goal.is(EQUAL) && goal.child(0) == goal.child(1) {
-                return node(80, vec![], vec![]);
+                return r10();
             }
         }
         let premises = vec![self.core.yes.clone(), self.core.no.clone()];
@@ -312,7 +342,6 @@ impl Maker<'_> {
 
     fn by_member(&mut self, goal: &Expr) -> Script {
         let br1 = || node(64, vec![], vec![]);
-        let br3 = || node(66, vec![], vec![]);
         if self.members.iter().all(|f| f == goal) && self.world.rng.chance(60) {
             return br1();
         }
@@ -522,7 +551,6 @@ fn derive(world: &mut World, members: &mut Vec<Expr>, depth: usize) -> (Expr, Sc
         return derive_at_once(world, members);
     }
     let down = depth - 1;
-    let br3 = || node(66, vec![], vec![]);
     match world.rng.below(17) {
         0 => derive_at_once(world, members),
         1 => {
@@ -606,28 +634,27 @@ fn derive_with(
 }
 
 fn derive_at_once(world: &mut World, members: &mut [Expr]) -> (Expr, Script) {
-    let br6 = node(68, vec![], vec![]);
     if world.rng.chance(30) {
         if let Some(found) = set5::derive_from(world, members) {
             return found;
         }
     }
     match world.rng.below(6) {
-        0 => (not(bottom()), br6),
-        1 => (top(), br6),
+        0 => (not(bottom()), br6()),
+        1 => (top(), br6()),
         2..=4 if !members.is_empty() => {
             let goal = world.rng.pick(members).clone();
             let br1 = node(64, vec![], vec![]);
             let script = match world.rng.below(4) {
                 0 => node(65, vec![goal.clone()], vec![br1]),
-                _ => node(66, vec![], vec![]),
+                _ => br3(),
             };
             (goal, script)
         }
         _ => {
             let ty = world.closed_type(1);
             let t = world.term(&ty, &Scope::default(), 1);
-            (equal(t.clone(), t), node(80, vec![], vec![]))
+            (refl(&t), r10())
         }
     }
 }
@@ -649,11 +676,11 @@ fn derive_all(world: &mut World, members: &mut Vec<Expr>, depth: usize) -> (Expr
                 true => choice(x, ty.child(0)),
                 false => world.term(&ty, &scope, 2),
             };
-            (equal(t.clone(), t), node(80, vec![], vec![]))
+            (refl(&t), r10())
         }
         _ => {
             let p = world.formula(&mut scope, 2);
-            let script = node(73, vec![], vec![node(66, vec![], vec![])]);
+            let script = node(73, vec![], vec![br3()]);
             (implies(p.clone(), p), script)
         }
     };
@@ -669,14 +696,14 @@ fn derive_replaced(world: &mut World, members: &mut Vec<Expr>, depth: usize) -> 
     let mut terms = Vec::new();
     q.closed_terms(&mut terms);
     let (equation, first) = if !equations.is_empty() && world.rng.chance(60) {
-        (world.rng.pick(&equations).clone(), node(66, vec![], vec![]))
+        (world.rng.pick(&equations).clone(), br3())
     } else {
         let ty = world.closed_type(1);
         let t = match terms.is_empty() {
             true => world.term(&ty, &Scope::default(), 1),
             false => world.rng.pick(&terms).clone(),
         };
-        (equal(t.clone(), t), node(80, vec![], vec![]))
+        (refl(&t), r10())
     };
     let (left, right) = (equation.child(0), equation.child(1));
     let ty = world.type_of(&left);

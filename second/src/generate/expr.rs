@@ -342,6 +342,11 @@ pub fn equal(left: Expr, right: Expr) -> Expr {
     Expr::make(EQUAL, 0, 0, vec![left, right])
 }
 
+/// t = t.
+pub fn refl(term: &Expr) -> Expr {
+    equal(term.clone(), term.clone())
+}
+
 pub fn member(element: Expr, set: Expr) -> Expr {
     Expr::make(IN, 0, 0, vec![element, set])
 }

@@ -133,10 +133,27 @@ impl Bench<'_> {
         match kind {
             LINK => {
                 let item = self.bottom();
-                self.w.push(LINK, item, 0, 0)
+                self.push(LINK, item, 0, 0)
             }
             NAME => self.fresh_name(),
-            GIVEN => self.given(),
+            FUNCTION => {
+                let ty = self.given();
+                self.function(&[ty, ty], 1)
+            }
+            ALL_TYPES => {
+                let f = self.bottom();
+                self.push(ALL_TYPES, 1, f, 0)
+            }
+            kind if is_type(kind) => self.sample_type(kind),
+            kind if is_term(kind) => self.sample_term(kind),
+            kind if is_formula(kind) => self.sample_formula(kind),
+            // A rule node without parts or premises.
+            kind => self.push(kind, 0, 0, 0),
+        }
+    }
+
+    fn sample_type(&mut self, kind: u32) -> u32 {
+        match kind {
             SET_TYPE => {
                 let ty = self.given();
                 self.push(SET_TYPE, ty, 0, 0)
@@ -146,51 +163,48 @@ impl Bench<'_> {
                 self.push(PAIR_TYPE, ty, ty, 0)
             }
             TYPE_VARIABLE => self.push(TYPE_VARIABLE, 2, 0, 0),
-            CONSTANT => {
-                let ty = self.given();
-                self.constant(ty)
-            }
-            FUNCTION => {
-                let ty = self.given();
-                self.function(&[ty, ty], 1)
-            }
-            BOUND => {
-                let ty = self.given();
-                self.push(BOUND, 1, ty, 0)
-            }
+            _ => self.given(),
+        }
+    }
+
+    fn sample_term(&mut self, kind: u32) -> u32 {
+        let ty = self.given();
+        match kind {
+            BOUND => self.push(BOUND, 1, ty, 0),
             PAIR => {
-                let ty = self.given();
                 let own = self.push(PAIR_TYPE, ty, ty, 0);
                 let c = self.constant(ty);
                 self.push(PAIR, c, c, own)
             }
             PRODUCT => {
-                let ty = self.given();
                 let pairs = self.push(PAIR_TYPE, ty, ty, 0);
                 let own = self.push(SET_TYPE, pairs, 0, 0);
                 let set = self.push(SET_TYPE, ty, 0, 0);
-                let c = self.constant(set);
-                self.push(PRODUCT, c, c, own)
+                let s = self.constant(set);
+                self.push(PRODUCT, s, s, own)
             }
             POWERSET => {
-                let ty = self.given();
                 let set = self.push(SET_TYPE, ty, 0, 0);
                 let own = self.push(SET_TYPE, set, 0, 0);
-                let c = self.constant(set);
-                self.push(POWERSET, c, own, 0)
+                let s = self.constant(set);
+                self.push(POWERSET, s, own, 0)
             }
             CHOICE => {
-                let ty = self.given();
                 let set = self.push(SET_TYPE, ty, 0, 0);
-                let c = self.constant(set);
-                self.push(CHOICE, c, ty, 0)
+                let s = self.constant(set);
+                self.push(CHOICE, s, ty, 0)
             }
             APPLICATION => {
-                let ty = self.given();
                 let c = self.constant(ty);
                 let function = self.function(&[ty, ty], 1);
                 self.application(function, &[ty, ty], &[c])
             }
+            _ => self.constant(ty),
+        }
+    }
+
+    fn sample_formula(&mut self, kind: u32) -> u32 {
+        match kind {
             AND | IMPLIES => {
                 let f = self.bottom();
                 self.push(kind, f, f, 0)
@@ -216,11 +230,7 @@ impl Bench<'_> {
                 let s = self.constant(set);
                 self.push(IN, c, s, 0)
             }
-            ALL_TYPES => {
-                let f = self.bottom();
-                self.push(ALL_TYPES, 1, f, 0)
-            }
-            kind => self.push(kind, 0, 0, 0),
+            _ => self.push(kind, 0, 0, 0),
         }
     }
 
@@ -278,30 +288,8 @@ fn halvings(mut weight: u64) -> Vec<bool> {
 }
 
 fn kind(b: &mut Bench) -> u64 {
-    let list = [
-        0,
-        24,
-        25,
-        26,
-        27,
-        28,
-        29,
-        30,
-        31,
-        47,
-        48,
-        60,
-        63,
-        81,
-        82,
-        100,
-        256,
-        257,
-        270,
-        288,
-        65_536,
-        1 << 24,
-    ];
+    let past = [81, 82, 100, 256, 257, 270, 288, 65_536, 1 << 24];
+    let list = [&[0][..], &choices::NO_KINDS, &[47, 48, 60, 63], &past].concat();
     let kind = match b.choose(4) {
         0 => b.rng.word() | 128,
         1 => u32::MAX,
@@ -666,57 +654,66 @@ fn weigh(b: &mut Bench, weight: u64) -> u64 {
     weigh_one(b, which, weight)
 }
 
-/// The sorts of records that have a weight of their own.
-pub const WEIGHT_SORTS: usize = 7 + choices::WEIGHT_SORTS;
+/// The sorts of records that have a weight of their own: those of `push_of_weight`, then those with choices.
+pub const WEIGHT_SORTS: usize = SORTS_WITHOUT_CHOICES + choices::WEIGHT_SORTS;
 
-/// The record of the weight, by sort: formulas of several kinds, types, terms.
+const SORTS_WITHOUT_CHOICES: usize = 7;
+
+/// The record of the weight, by sort; past the sorts an equation that is light, though of a heavy type.
 pub fn weigh_one(b: &mut Bench, which: usize, weight: u64) -> u64 {
-    let refusal = match weight > b.place.most_weight() {
-        true => 7,
-        false => 0,
-    };
+    let most = b.place.most_weight();
     match which {
-        0 => {
-            b.formula_of_weight(weight);
+        0..SORTS_WITHOUT_CHOICES => {
+            push_of_weight(b, which, weight);
         }
-        1 => {
-            b.type_of_weight(weight);
+        SORTS_WITHOUT_CHOICES..WEIGHT_SORTS => {
+            choices::weigh(b, which - SORTS_WITHOUT_CHOICES, weight);
         }
-        2 => {
-            let ty = b.type_of_weight(weight - 1);
-            b.push(BOUND, 0, ty, 0);
-        }
-        3 => {
-            let ty = b.type_of_weight(100);
-            let f = b.formula_of_weight(weight - 101);
-            b.push(ALL, ty, f, 0);
-        }
-        4 => {
-            let f = b.formula_of_weight(weight - 1);
-            b.push(ALL_TYPES, 2, f, 0);
-        }
-        5 => {
-            let f = b.formula_of_weight(weight / 3);
-            let g = b.formula_of_weight(weight - 1 - weight / 3);
-            b.push(IMPLIES, f, g, 0);
-        }
-        6 => {
-            // A function without arguments: 1 + own type + type argument.
-            let own = b.type_of_weight(weight - 2);
-            let other = b.given();
-            let function = b.function(&[own], 1);
-            b.application(function, &[own, other], &[]);
-        }
-        7..WEIGHT_SORTS => choices::weigh(b, which - 7, weight),
         _ => {
             // Constants of any type weigh 1: no weight to refuse here.
-            let ty = b.type_of_weight(b.place.most_weight());
+            let ty = b.type_of_weight(most);
             let c = b.constant(ty);
             b.push(EQUAL, c, c, 0);
             return 0;
         }
     }
-    refusal
+    match weight > most {
+        true => 7,
+        false => 0,
+    }
+}
+
+/// A record of the weight without choices: formulas of several kinds, types, terms.
+fn push_of_weight(b: &mut Bench, sort: usize, weight: u64) -> u32 {
+    match sort {
+        0 => b.formula_of_weight(weight),
+        1 => b.type_of_weight(weight),
+        2 => {
+            let ty = b.type_of_weight(weight - 1);
+            b.push(BOUND, 0, ty, 0)
+        }
+        3 => {
+            let ty = b.type_of_weight(100);
+            let f = b.formula_of_weight(weight - 101);
+            b.push(ALL, ty, f, 0)
+        }
+        4 => {
+            let f = b.formula_of_weight(weight - 1);
+            b.push(ALL_TYPES, 2, f, 0)
+        }
+        5 => {
+            let f = b.formula_of_weight(weight / 3);
+            let g = b.formula_of_weight(weight - 1 - weight / 3);
+            b.push(IMPLIES, f, g, 0)
+        }
+        _ => {
+            // A function without arguments: 1 + own type + type argument.
+            let own = b.type_of_weight(weight - 2);
+            let other = b.given();
+            let function = b.function(&[own], 1);
+            b.application(function, &[own, other], &[])
+        }
+    }
 }
 
 fn name(b: &mut Bench) -> u64 {

@@ -4,7 +4,7 @@
 use super::expect::Expect;
 use super::expr::*;
 use super::proofs::Draft;
-use super::refute::Script;
+use super::refute::{node, Script};
 use super::set5::over_sets;
 use super::world::World;
 
@@ -81,14 +81,6 @@ impl Kit {
     fn all_are(&self, term: &Expr) -> Expr {
         self.over_sets(equal(self.of_y.clone(), term.clone()))
     }
-}
-
-fn node(kind: u32, parts: &[&Expr], premises: Vec<Script>) -> Script {
-    Script::new(kind, parts.iter().map(|&p| p.clone()).collect(), premises)
-}
-
-fn refl(term: &Expr) -> Expr {
-    equal(term.clone(), term.clone())
 }
 
 /// A formula that a cut brings in, and the node that has it as a member.
@@ -184,7 +176,7 @@ fn open(k: &Kit) -> Vec<Brought> {
     let over = k.all_are(&k.c);
     let over_nothing = all(k.ty.clone(), p.clone());
     let parts = [&over_nothing, &k.of_y, p];
-    let of_t_y = choice(choice(k.t.clone(), k.sets.clone()), k.ty.clone());
+    let of_of_t = choice(k.of_t.clone(), k.ty.clone());
     vec![
         (p.clone(), node(37, &[&about(0)], k.two())),
         (p.clone(), node(37, &[&about(63)], k.two())),
@@ -193,7 +185,7 @@ fn open(k: &Kit) -> Vec<Brought> {
         (over.clone(), node(44, &[&over, &k.y, &about(0)], k.one())),
         (over_nothing.clone(), node(44, &parts, k.one())),
         (p.clone(), node(46, &[&about(1), &k.s, &k.s, p, p], k.two())),
-        (p.clone(), node(46, &[p, &of_t_y, &k.of_y, p, p], k.two())),
+        (p.clone(), node(46, &[p, &of_of_t, &k.of_y, p, p], k.two())),
     ]
 }
 

@@ -47,6 +47,11 @@ impl Script {
     }
 }
 
+/// A script with parts that are lent.
+pub fn node(kind: u32, parts: &[&Expr], premises: Vec<Script>) -> Script {
+    Script::new(kind, parts.iter().map(|&p| p.clone()).collect(), premises)
+}
+
 /// A formula and the proof that refutes it. Types may have variables below `variables`.
 pub fn refutable(world: &mut World, depth: usize, variables: u32) -> (Expr, Script) {
     let mut scope = Scope::polymorphic(variables);

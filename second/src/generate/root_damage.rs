@@ -1,5 +1,6 @@
 //! Damage to what the headers name: hypotheses, goal and root.
 
+use super::choices::chosen_is_itself;
 use super::gadgets::Bench;
 use super::rng::Rng;
 use crate::kinds::*;
@@ -102,13 +103,6 @@ fn about_choices(b: &mut Bench, which: usize) -> (u32, u64) {
             }
         }
     }
-}
-
-/// choice(x) = choice(x) for an index of the set type.
-fn chosen_is_itself(b: &mut Bench, index: u32, set: u32, ty: u32) -> u32 {
-    let x = b.push(BOUND, index, set, 0);
-    let chosen = b.push(CHOICE, x, ty, 0);
-    b.push(EQUAL, chosen, chosen, 0)
 }
 
 /// A record for the header's goal that is refused there.
