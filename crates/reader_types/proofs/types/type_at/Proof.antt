@@ -19,7 +19,7 @@ type-at-spec = tie.close (tie.spec
     (λ c κs. search needs)
     -- the call for a powerset
     (λ c κs. search needs)
-    -- the call for a application
+    -- the call for an application
     (λ c κs. search needs)
     -- the call for a choice
     (λ c κs. search needs)
@@ -33,7 +33,7 @@ type-at-spec = tie.close (tie.spec
     (λ c. search type-as)
     -- returns, for a powerset
     (λ c. search type-as)
-    -- returns, for a application
+    -- returns, for an application
     (λ c. search type-as)
     -- returns, for a choice
     (λ c. search type-as)
