@@ -101,8 +101,19 @@ pub fn proof(world: &mut World, draft: &mut Draft, closing: Script) -> (Script, 
         6 => return (axiom_misused(world, draft, &k), Expect::Refusal(15)),
         _ => (not_fresh(world, draft, &k), 16),
     };
-    let (brought, odd) = world.rng.pick(&list).clone();
-    let script = Script::new(37, vec![brought], vec![odd, k.leaf()]);
+    refused_after(37, world, &k, &list, refusal)
+}
+
+/// One of the list: the rule, a cut, brings in the formula, and the odd node on it is refused.
+fn refused_after(
+    rule: u32,
+    world: &mut World,
+    k: &Kit,
+    list: &[Brought],
+    refusal: u64,
+) -> (Script, Expect) {
+    let (brought, odd) = world.rng.pick(list).clone();
+    let script = Script::new(rule, vec![brought], vec![odd, k.leaf()]);
     (script, Expect::Refusal(refusal))
 }
 
@@ -276,9 +287,7 @@ pub fn derivation(world: &mut World, closing: Script) -> (Script, Expect) {
         4 => (goals_open(&k), 15),
         _ => (goals_not_fresh(&k), 16),
     };
-    let (goal, odd) = world.rng.pick(&list).clone();
-    let script = Script::new(67, vec![goal], vec![odd, k.leaf()]);
-    (script, Expect::Refusal(refusal))
+    refused_after(67, world, &k, &list, refusal)
 }
 
 /// A choice where a constant or a formula is asked for: a goal and the node on it.
