@@ -19,7 +19,7 @@ use Rattle.derivation_rules.specs.Erase.{bareTree, bareParts}
 use Rattle.derivation_rules.specs.Rules.{State, Row, row, indicesClosed}
 use Rattle.derivation_trees.specs.Keys.{decoded, key-same}
 use Rattle.derivation_trees.specs.Table.{KeyOf}
-use Rattle.derivation_tables.specs.RowLaws.{row-none, by-rule}
+use Rattle.derivation_rules.specs.RowLaws.{row-none, by-rule}
 use Rattle.derivation_frames.specs.Frames.{chainTrees}
 use Rattle.derivation_tables.specs.Tables.{column, sourceTree, stepTree, formTree}
 use Rattle.derivation_forms.specs.Forms.{Formed, lower-most}

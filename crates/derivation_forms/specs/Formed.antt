@@ -9,8 +9,7 @@ use native.Mathlib.Omega.{arith}
 use borrow.Author.Tests.{eq-eqb, ne-eqb, eqb-true, eqb-false, not-true, not-false}
 use Rattle.reader.specs.Words.{Reader}
 use Rattle.reader.specs.Tests.{both, every, ifEq, ifLt}
-use Rattle.reader.specs.TestLaws.{eq-no}
-use Rattle.reader.specs.DownLaws.{Local, down-zero, down-step}
+use Rattle.reader.specs.TestLaws.{eq-yes, eq-no}
 use Rattle.reader.specs.Trees.{Tree, lower}
 use Rattle.reader.specs.Chains.{items, parts}
 use Rattle.reader.specs.TreeLaws.{lower-below, items-zero, items-step}
@@ -23,7 +22,9 @@ use Rattle.derivation_trees.specs.Table.{KeyOf}
 use Rattle.derivation_trees.specs.Shapes.{shapeOf}
 use Rattle.derivation_frames.specs.Frames.{chainTrees}
 use Rattle.derivation_forms.specs.Forms.{lower-most}
-use Rattle.derivation_tables.specs.Tables.{shapesStep, shapesOf, column, oneOf, shapes-are, goal-shapes-are}
+use Rattle.rule_bytes.specs.Bytes.{derivationParts}
+use Rattle.rule_bytes.specs.DerivationRows.{derivation-varies}
+use Rattle.derivation_tables.specs.Tables.{shapesOf, column, oneOf, shapes-are, goal-shapes-are}
 
 -- a formula
 unfoldable pub isFormula : Tree → Bool
@@ -31,7 +32,9 @@ isFormula t = hasShape (shapeOf 37) t
 
 -- the parts of node n have the number, classes and forms of its rule
 unfoldable pub partsFormed : Reader → ℕ → Bool
-partsFormed rd n = ifEq (rd n 0) 65 (every isFormula (bareParts rd n)) (haveShapes (shapesOf (column (rd n 0) 0)) (bareParts rd n))
+partsFormed rd n =
+    ifEq (derivationParts (rd n 0)) 15 (every isFormula (bareParts rd n))
+    (haveShapes (shapesOf (derivationParts (rd n 0)) (column (rd n 0) 0)) (bareParts rd n))
 
 -- the goal has the form that rule k shows, where it shows one
 unfoldable pub goalShaped : ℕ → Tree → Bool
@@ -51,12 +54,15 @@ pub parts-formed : (rd : Reader) (n : ℕ) (st : State) → partsFormed rd n ≡
 unfolding partsFormed ifEq
 parts-formed rd n st = go (rd n 0) (bareParts rd n)
   where
-    go : (k : ℕ) (ps : List Tree) → ifEq k 65 (every isFormula ps) (haveShapes (shapesOf (column k 0)) ps) ≡ haveShapes (row k ps st .shapes) ps
-    go k ps = by (eqb k 65) refl
+    go : (k : ℕ) (ps : List Tree) →
+        ifEq (derivationParts k) 15 (every isFormula ps) (haveShapes (shapesOf (derivationParts k) (column k 0)) ps) ≡ haveShapes (row k ps st .shapes) ps
+    go k ps = by (eqb (derivationParts k) 15) refl
       where
-        by : (b : Bool) → eqb k 65 ≡ b → elim b as (λ x. Bool) [ true ↦ every isFormula ps | false ↦ haveShapes (shapesOf (column k 0)) ps ] ≡ haveShapes (row k ps st .shapes) ps
-        by true e = rw (eqb-true k 65 e, shapes-65 ps st) (sym (formulas-are ps))
-        by false e = rw (shapes-are ps st k (eqb-false k 65 e)) refl
+        by : (b : Bool) → eqb (derivationParts k) 15 ≡ b →
+            elim b as (λ x. Bool) [ true ↦ every isFormula ps | false ↦ haveShapes (shapesOf (derivationParts k) (column k 0)) ps ] ≡
+            haveShapes (row k ps st .shapes) ps
+        by true e = rw (derivation-varies k (eqb-true (derivationParts k) 15 e), shapes-65 ps st) (sym (formulas-are ps))
+        by false e = rw (shapes-are ps st k (eqb-false (derivationParts k) 15 e)) refl
 
 pub goal-shaped : (k : ℕ) (ps : List Tree) (st : State) (goal : Tree) → goalShaped k goal ≡ goalFormed (row k ps st .goalShapes) goal
 unfolding goalShaped goalFormed oneOf ifEq every
@@ -103,37 +109,32 @@ key-normal rd size x t k = k .stands .normal
 pub key-shape : (rd : Reader) (size x : ℕ) (t : Tree) (s : Shape) (r : Bool) → KeyOf rd size x t → r ≡ hasShape s (decoded rd x) → r ≡ hasShape s t
 key-shape rd size x t s r k e = rw (← k .stands .means) e
 
+-- one shape more, of one more
+shapes-next : (n code : ℕ) (t : Tree) (ts : List Tree) → (n ≡ 0 → ⊥) →
+    haveShapes (shapesOf n code) (t ∷ ts) ≡ both (hasShape (shapeOf (code % 256)) t) (haveShapes (shapesOf (n - 1) (code / 256)) ts)
+unfolding haveShapes both shapesOf
+shapes-next zero code t ts h = absurd (h refl)
+shapes-next (suc n) code t ts h = let z : suc n - 1 ≡ n = omega arith in rw z refl
+
 -- The ways out of `have_shapes`.
-shapes-local : Local shapesStep
-unfolding shapesStep
-shapes-local f g s p h = rw (h (s / 256) (omega arith))
-
-shapes-step : (s : ℕ) → 0 < s → shapesOf s ≡ shapeOf (s % 256) ∷ shapesOf (s / 256)
-unfolding shapesOf shapesStep
-shapes-step s p = down-step [] shapesStep shapes-local s p
-
-shapes-zero : shapesOf 0 ≡ []
-unfolding shapesOf
-shapes-zero = down-zero [] shapesStep
-
-module _ (rd : Reader) (c code : ℕ) where
-  pub shapes-end : c ≡ 0 → eqb code 0 ≡ haveShapes (shapesOf code) (chainTrees rd c)
-  unfolding haveShapes
-  shapes-end h = rw (h, chain-zero rd) (go code)
+module _ (rd : Reader) (c n code : ℕ) where
+  pub shapes-end : c ≡ 0 → eqb n 0 ≡ haveShapes (shapesOf n code) (chainTrees rd c)
+  unfolding haveShapes shapesOf
+  shapes-end h = rw (h, chain-zero rd) (go n)
     where
-      go : (n : ℕ) → eqb n 0 ≡ haveShapes (shapesOf n) []
-      go zero = rw shapes-zero refl
-      go (suc n) = rw (shapes-step (suc n) (omega arith)) (eqb·suc-zero n)
+      go : (k : ℕ) → eqb k 0 ≡ haveShapes (shapesOf k code) []
+      go zero = refl
+      go (suc k) = eqb·suc-zero k
 
-  pub shapes-over : (c ≡ 0 → ⊥) → code ≡ 0 → false ≡ haveShapes (shapesOf code) (chainTrees rd c)
-  unfolding haveShapes
-  shapes-over h z = rw (z, chain-step rd c (omega arith), shapes-zero) refl
+  pub shapes-over : (c ≡ 0 → ⊥) → n ≡ 0 → false ≡ haveShapes (shapesOf n code) (chainTrees rd c)
+  unfolding haveShapes shapesOf
+  shapes-over h z = rw (z, chain-step rd c (omega arith)) refl
 
-  module _ (given : c ≡ 0 → ⊥) (wanted : code ≡ 0 → ⊥) (item rest : ℕ) (ei : item ≡ lower rd c 1) (er : rest ≡ lower rd c 3) where
-    pub shapes-more : (r : Bool) → r ≡ both (hasShape (shapeOf (code % 256)) (bareTree rd item)) (haveShapes (shapesOf (code / 256)) (chainTrees rd rest)) →
-        r ≡ haveShapes (shapesOf code) (chainTrees rd c)
-    unfolding haveShapes both
-    shapes-more r e = rw (shapes-step code (omega arith), chain-step rd c (omega arith), ← ei, ← er) e
+  module _ (given : c ≡ 0 → ⊥) (wanted : n ≡ 0 → ⊥) (item rest : ℕ) (ei : item ≡ lower rd c 1) (er : rest ≡ lower rd c 3) where
+    pub shapes-more : (r : Bool) →
+        r ≡ both (hasShape (shapeOf (code % 256)) (bareTree rd item)) (haveShapes (shapesOf (n - 1) (code / 256)) (chainTrees rd rest)) →
+        r ≡ haveShapes (shapesOf n code) (chainTrees rd c)
+    shapes-more r e = rw (chain-step rd c (omega arith), shapes-next n code _ _ wanted, ← ei, ← er) e
 
 -- The ways out of a loop along a chain that makes a test on each item.
 module _ (rd : Reader) (test : Tree → Bool) (c l : ℕ) (inv : every test (chainTrees rd c) ≡ every test (chainTrees rd l)) where
@@ -155,14 +156,14 @@ unfolding isFormula
 key-formula rd size x item r k e = rw (← k .stands .means) e
 
 -- The ways out of `parts_formed` and `goal_formed`.
-module _ (rd : Reader) (n k c : ℕ) (ek : k ≡ rd n 0) (ec : c ≡ lower rd n 1) where
-  pub formed-65 : k ≡ 65 → (r : Bool) → r ≡ every isFormula (chainTrees rd c) → r ≡ partsFormed rd n
-  unfolding partsFormed ifEq bareParts parts chainTrees
-  formed-65 h r e = rw (← ek, h, ← ec) e
-
-  pub formed-other : (k ≡ 65 → ⊥) → (code : ℕ) (r : Bool) → code ≡ column k 0 → r ≡ haveShapes (shapesOf code) (chainTrees rd c) → r ≡ partsFormed rd n
+module _ (rd : Reader) (n k c count : ℕ) (ek : k ≡ rd n 0) (ec : c ≡ lower rd n 1) (en : count ≡ derivationParts k) where
+  pub formed-varying : count ≡ 15 → (r : Bool) → r ≡ every isFormula (chainTrees rd c) → r ≡ partsFormed rd n
   unfolding partsFormed bareParts parts chainTrees
-  formed-other h code r es e = rw (← ek, ← es, ← ec) (eq-no k 65 _ _ r h e)
+  formed-varying h r e = rw (← ek, ← ec, ← en) (eq-yes count 15 _ _ r h e)
+
+  pub formed-counted : (count ≡ 15 → ⊥) → (code : ℕ) (r : Bool) → code ≡ column k 0 → r ≡ haveShapes (shapesOf count code) (chainTrees rd c) → r ≡ partsFormed rd n
+  unfolding partsFormed bareParts parts chainTrees
+  formed-counted h code r es e = rw (← ek, ← es, ← ec, ← en) (eq-no count 15 _ _ r h e)
 
 pub chain-in : (rd : Reader) (n c size : ℕ) → c ≡ lower rd n 1 → n < size → c < size
 chain-in rd n c size e p = omega (arith, lower-most rd n 1)

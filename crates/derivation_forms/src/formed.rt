@@ -16,22 +16,23 @@ ghost use Rattle.derivation_frames.specs.Frames.{chainTrees};
 ghost use Rattle.derivation_tables.specs.Tables.{shapesOf};
 ghost use Rattle.derivation_forms.specs.Formed.{isFormula, partsFormed, goalShaped};
 
-// Have the items of chain c the shapes that the bytes of `code` number, the lowest byte the first's?
+// Are the items of chain c n, with the shapes that the bytes of `code` number, the lowest byte the first's?
 fn have_shapes(
     obligation: &[u8],
     second: &[u8],
     m: usize,
     keys: &[usize],
     c: usize,
+    n: usize,
     code: usize,
 ) -> bool
     requires { ⌜ Table (word (now obligation) (now second) m) (now keys) × (c < length (now keys)) ⌝ }
-    ensures { λ r. ⌜ r ≡ haveShapes (shapesOf code) (chainTrees (word (now (obligation .entry)) (now (second .entry)) m) c) ⌝ }
+    ensures { λ r. ⌜ r ≡ haveShapes (shapesOf n code) (chainTrees (word (now (obligation .entry)) (now (second .entry)) m) c) ⌝ }
 {
     if c == 0 {
-        return code == 0;
+        return n == 0;
     }
-    if code == 0 {
+    if n == 0 {
         return false;
     }
     let item = trees::lower_at(obligation, second, m, c, 1);
@@ -40,7 +41,7 @@ fn have_shapes(
     if !shapes::has_shape(obligation, second, m, keys, x, code % 256) {
         return false;
     }
-    have_shapes(obligation, second, m, keys, rest, code / 256)
+    have_shapes(obligation, second, m, keys, rest, n - 1, code / 256)
 }
 
 // Are the items of chain c formulas?
@@ -60,17 +61,19 @@ fn are_formulas(obligation: &[u8], second: &[u8], m: usize, keys: &[usize], c: u
     true
 }
 
-// Have the parts of node n the number, classes and forms of its rule? Those of BR2 are any number of formulas.
+// Have the parts of node n the number, classes and forms of its rule?
 pub fn parts_formed(obligation: &[u8], second: &[u8], m: usize, keys: &[usize], n: usize) -> bool
     requires { ⌜ Table (word (now obligation) (now second) m) (now keys) × (n < length (now keys)) ⌝ }
     ensures { λ r. ⌜ r ≡ partsFormed (word (now (obligation .entry)) (now (second .entry)) m) n ⌝ }
 {
     let k = words::word_at(obligation, second, m, n, 0);
     let c = trees::lower_at(obligation, second, m, n, 1);
-    if k == 65 {
+    let count = rule_bytes::derivation_parts(k);
+    // The number varies: BR2 keeps any number of members.
+    if count == 15 {
         return are_formulas(obligation, second, m, keys, c);
     }
-    have_shapes(obligation, second, m, keys, c, tables::column(k, 0))
+    have_shapes(obligation, second, m, keys, c, count, tables::column(k, 0))
 }
 
 // Has the goal the form that rule k shows, where it shows one?

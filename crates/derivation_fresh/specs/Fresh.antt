@@ -21,7 +21,7 @@ use Rattle.derivation_trees.specs.Keys.{bodyOf, decoded, Normal, Stands, key-on
 use Rattle.derivation_trees.specs.Makers.{stands-wider}
 use Rattle.derivation_trees.specs.Table.{Table, KeyOf}
 use Rattle.derivation_marks.specs.Marks.{Marked}
-use Rattle.derivation_tables.specs.RowLaws.{row-none, by-rule}
+use Rattle.derivation_rules.specs.RowLaws.{row-none, by-rule}
 use Rattle.derivation_frames.specs.Frames.{startAt, goalAt, entryAt, membersAt, Framed}
 use Rattle.derivation_tables.specs.Tables.{sourceTree, stepTree, formTree}
 use Rattle.derivation_forms.specs.Forms.{Formed}

@@ -18,7 +18,7 @@ use Rattle.derivation_rules.specs.Check.{needsMet, noOther}
 use Rattle.reader.specs.Members.{member}
 use Rattle.derivation_trees.specs.Keys.{decoded, Normal}
 use Rattle.derivation_trees.specs.Table.{Table}
-use Rattle.derivation_tables.specs.RowLaws.{row-none, by-rule}
+use Rattle.derivation_rules.specs.RowLaws.{row-none, by-rule}
 use Rattle.derivation_frames.specs.Frames.{goalAt, chainTrees, Framed}
 use Rattle.derivation_tables.specs.Tables.{column, oneOf, formTree, needs-are}
 use Rattle.derivation_forms.specs.Forms.{Given, Formed}

@@ -17,9 +17,11 @@ use Rattle.reader.specs.Members.{premisesFit}
 use Rattle.derivation_trees.specs.Keys.{decoded}
 use Rattle.derivation_closedness.specs.Reaches.{Unmarked}
 use Rattle.derivation_replacement.specs.Replaced.{Tables}
-use Rattle.derivation_tables.specs.RowLaws.{by-rule}
+use Rattle.derivation_rules.specs.RowLaws.{by-rule}
 use Rattle.derivation_frames.specs.Frames.{goalAt, countAt, membersAt, stateOf, Framed}
-use Rattle.derivation_tables.specs.Tables.{column, column-none, count-is}
+use Rattle.rule_bytes.specs.Bytes.{derivationPremises}
+use Rattle.rule_bytes.specs.DerivationRows.{derivation-premises}
+use Rattle.derivation_tables.specs.Tables.{column, column-none}
 use Rattle.derivation_forms.specs.Formed.{partsFormed, goalShaped, parts-formed, goal-shaped}
 use Rattle.derivation_members.specs.Needs.{needsHeld, onlyGoals, needs-held, only-goals}
 use Rattle.derivation_fits.specs.Fits.{nodeFits, node-fits}
@@ -36,7 +38,7 @@ unfoldable pub goalShapedAt : Reader → Tree → ℕ → Bool
 goalShapedAt rd goal n = goalShaped (rd n 0) goal
 
 unfoldable pub premisesAt : Reader → ℕ → Bool
-premisesAt rd n = premisesFit 2 rd n (column (rd n 0) 2)
+premisesAt rd n = premisesFit 2 rd n (derivationPremises (rd n 0))
 
 -- what must be among the members is, and what must not is not
 unfoldable pub membersFit : Reader → List Tree → Tree → ℕ → Bool
@@ -72,7 +74,7 @@ both-faults rd st n =
     ∙ rw (
       parts-formed rd n st,
       goal-shaped (rd n 0) (bareParts rd n) st (st .goal),
-      ← count-is (bareParts rd n) st (rd n 0),
+      ← derivation-premises st (bareParts rd n) (rd n 0),
       needs-held rd n st,
       only-goals rd n (bareParts rd n) st,
       node-fits rd n st,
@@ -89,7 +91,7 @@ pub goal-fits : (rd : Reader) (frames : List ℕ) (d n k goal : ℕ) (r : Bool) 
 unfolding goalShapedAt
 goal-fits rd frames d n k goal r ek eg e = rw (← ek, ← eg) e
 
-pub premises-at : (rd : Reader) (n k count : ℕ) (r : Bool) → k ≡ rd n 0 → count ≡ column k 2 → r ≡ premisesFit 2 rd n count → r ≡ premisesAt rd n
+pub premises-at : (rd : Reader) (n k count : ℕ) (r : Bool) → k ≡ rd n 0 → count ≡ derivationPremises k → r ≡ premisesFit 2 rd n count → r ≡ premisesAt rd n
 unfolding premisesAt
 premises-at rd n k count r ek ec e = rw (← ek, ← ec) e
 
@@ -102,13 +104,13 @@ unfolding membersFit
 members-fit rd Γ goal n r e = e
 
 -- a premise adds one member at most
-pub added-few : (k : ℕ) → column k 13 ≤ 1
+pub added-few : (k : ℕ) → column k 2 ≤ 1
 unfolding column ifLt
 added-few =
-    by-rule (λ k. column k 13 ≤ 1)
+    by-rule (λ k. column k 2 ≤ 1)
     (omega arith) (omega arith) (omega arith) (omega arith) (omega arith) (omega arith) (omega arith) (omega arith) (omega arith)
     (omega arith) (omega arith) (omega arith) (omega arith) (omega arith) (omega arith) (omega arith) (omega arith)
-    (λ k other. let none : column k 13 ≡ 0 = column-none k 13 other in omega arith)
+    (λ k other. let none : column k 2 ≡ 0 = column-none k 2 other in omega arith)
 
 pub room-at : (rd : Reader) (size : ℕ) (frames : List ℕ) (d n h : ℕ) (r : Bool) → Framed rd size frames d → h ≡ countAt frames d → r ≡ nodeRoom rd h n →
     r ≡ nodeRoom rd (length (membersAt rd frames d)) n

@@ -45,7 +45,7 @@ fn premises_fit(obligation: &[u8], second: &[u8], m: usize, n: usize) -> bool
     ensures { λ r. ⌜ r ≡ premisesAt (word (now (obligation .entry)) (now (second .entry)) m) n ⌝ }
 {
     let k = words::word_at(obligation, second, m, n, 0);
-    let count = tables::column(k, 2);
+    let count = rule_bytes::derivation_premises(k);
     premises::premises_fit(obligation, second, m, n, count)
 }
 
@@ -96,11 +96,11 @@ fn room_beside(obligation: &[u8], second: &[u8], m: usize, h: usize, n: usize) -
         let c = trees::lower_at(obligation, second, m, n, 1);
         return chains::at_most(obligation, second, m, c, 2048);
     }
-    let count = tables::column(k, 2);
+    let count = rule_bytes::derivation_premises(k);
     if count == 0 {
         return true;
     }
-    let more = tables::column(k, 13);
+    let more = tables::column(k, 2);
     h + more <= 2048
 }
 

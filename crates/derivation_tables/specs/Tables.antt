@@ -15,7 +15,9 @@ use Rattle.reader.specs.Shapes.{Shape}
 use Rattle.derivation_rules.specs.Rules.{State, row, premise}
 use Rattle.reader.specs.Members.{part}
 use Rattle.derivation_trees.specs.Shapes.{shapeOf}
-use Rattle.derivation_tables.specs.RowLaws.{NoRule, row-none, by-rule}
+use Rattle.derivation_rules.specs.RowLaws.{NoRule, row-none, by-rule}
+use Rattle.rule_bytes.specs.Bytes.{byteOf, derivationByte, derivationParts}
+use Rattle.rule_bytes.specs.DerivationRows.{parts-none}
 
 -- A form names a tree of a node: 4 times the source and a step. Source 1 is the goal, from 2 on the parts; step 0 itself, 1 its first part, 2 its second,
 -- 3 its negation. Form 0 is none.
@@ -28,39 +30,37 @@ stepTree a t = ifEq a 0 t (ifEq a 1 (firstOf t) (ifEq a 2 (secondOf t) (¬ᵗ t)
 unfoldable pub formTree : List Tree → Tree → ℕ → Tree
 formTree ps goal form = stepTree (form % 4) (sourceTree ps goal (form / 4))
 
--- A list of shapes as a number: a byte for each, the first's lowest.
-unfoldable pub shapesStep : (ℕ → List Shape) → ℕ → List Shape
-shapesStep sub code = shapeOf (code % 256) ∷ sub (code / 256)
+-- n shapes as a number: a byte for each, the first's lowest.
+unfoldable pub shapesOf : ℕ → ℕ → List Shape
+shapesOf zero code = []
+shapesOf (suc n) code = shapeOf (code % 256) ∷ shapesOf n (code / 256)
 
-unfoldable pub shapesOf : ℕ → List Shape
-shapesOf = down [] shapesStep
-
--- Fourteen columns a rule: 0 shapes of the parts; 1 shape of the goal; 2 number of premises; 3 form needed in the sequent;
+-- Thirteen columns a rule: 0 shapes of the parts; 1 shape of the goal; 2 the most members that a premise adds; 3 form needed in the sequent;
 -- 4 and 5 goal of premise 0 and the member that it adds; 6 and 7 the same of premise 1; 8 and 9 two forms that are equal;
--- 10 to 12 three forms, of which the first is the third with the second in place of index 0; 13 the most members that a premise adds.
+-- 10 to 12 three forms, of which the first is the third with the second in place of index 0.
 abbrev pub rules : List ℕ
 rules =
-    0 ∷ 0 ∷ 0 ∷ 4 ∷ 0 ∷ 0 ∷ 0 ∷ 0 ∷ 0 ∷ 0 ∷ 0 ∷ 0 ∷ 0 ∷ 0 ∷  -- 64 BR1
-    0 ∷ 0 ∷ 1 ∷ 0 ∷ 4 ∷ 0 ∷ 0 ∷ 0 ∷ 0 ∷ 0 ∷ 0 ∷ 0 ∷ 0 ∷ 0 ∷  -- 65 BR2
-    0 ∷ 0 ∷ 0 ∷ 4 ∷ 0 ∷ 0 ∷ 0 ∷ 0 ∷ 0 ∷ 0 ∷ 0 ∷ 0 ∷ 0 ∷ 0 ∷  -- 66 BR3
-    37 ∷ 0 ∷ 2 ∷ 0 ∷ 8 ∷ 0 ∷ 4 ∷ 8 ∷ 0 ∷ 0 ∷ 0 ∷ 0 ∷ 0 ∷ 1 ∷  -- 67 BR4
-    0 ∷ 78 ∷ 0 ∷ 0 ∷ 0 ∷ 0 ∷ 0 ∷ 0 ∷ 0 ∷ 0 ∷ 0 ∷ 0 ∷ 0 ∷ 0 ∷  -- 68 BR6
-    17 ∷ 0 ∷ 2 ∷ 0 ∷ 9 ∷ 0 ∷ 8 ∷ 0 ∷ 10 ∷ 4 ∷ 0 ∷ 0 ∷ 0 ∷ 0 ∷  -- 69 MP
-    0 ∷ 16 ∷ 2 ∷ 0 ∷ 5 ∷ 0 ∷ 6 ∷ 0 ∷ 0 ∷ 0 ∷ 0 ∷ 0 ∷ 0 ∷ 0 ∷  -- 70 R1
-    16 ∷ 0 ∷ 1 ∷ 0 ∷ 8 ∷ 0 ∷ 0 ∷ 0 ∷ 9 ∷ 4 ∷ 0 ∷ 0 ∷ 0 ∷ 0 ∷  -- 71 R2
-    16 ∷ 0 ∷ 1 ∷ 0 ∷ 8 ∷ 0 ∷ 0 ∷ 0 ∷ 10 ∷ 4 ∷ 0 ∷ 0 ∷ 0 ∷ 0 ∷  -- 72 R2'
-    0 ∷ 17 ∷ 1 ∷ 0 ∷ 6 ∷ 5 ∷ 0 ∷ 0 ∷ 0 ∷ 0 ∷ 0 ∷ 0 ∷ 0 ∷ 1 ∷  -- 73 R3
-    17 ∷ 0 ∷ 1 ∷ 9 ∷ 8 ∷ 0 ∷ 0 ∷ 0 ∷ 10 ∷ 4 ∷ 0 ∷ 0 ∷ 0 ∷ 0 ∷  -- 74 R4
-    37 ∷ 0 ∷ 2 ∷ 0 ∷ 8 ∷ 7 ∷ 11 ∷ 7 ∷ 0 ∷ 0 ∷ 0 ∷ 0 ∷ 0 ∷ 1 ∷  -- 75 R5
-    37 ∷ 18 ∷ 2 ∷ 0 ∷ 8 ∷ 5 ∷ 11 ∷ 5 ∷ 0 ∷ 0 ∷ 0 ∷ 0 ∷ 0 ∷ 1 ∷  -- 76 R6
-    9479 ∷ 19 ∷ 1 ∷ 0 ∷ 12 ∷ 0 ∷ 0 ∷ 0 ∷ 0 ∷ 0 ∷ 12 ∷ 8 ∷ 6 ∷ 0 ∷  -- 77 R7
-    9235 ∷ 0 ∷ 1 ∷ 0 ∷ 8 ∷ 0 ∷ 0 ∷ 0 ∷ 0 ∷ 0 ∷ 4 ∷ 12 ∷ 10 ∷ 0 ∷  -- 78 R8
-    2429989 ∷ 0 ∷ 2 ∷ 0 ∷ 12 ∷ 0 ∷ 16 ∷ 0 ∷ 0 ∷ 0 ∷ 16 ∷ 13 ∷ 8 ∷ 0 ∷  -- 79 R9
-    0 ∷ 20 ∷ 0 ∷ 0 ∷ 0 ∷ 0 ∷ 0 ∷ 0 ∷ 5 ∷ 6 ∷ 0 ∷ 0 ∷ 0 ∷ 0 ∷ []  -- 80 R10
+    0 ∷ 0 ∷ 0 ∷ 4 ∷ 0 ∷ 0 ∷ 0 ∷ 0 ∷ 0 ∷ 0 ∷ 0 ∷ 0 ∷ 0 ∷  -- 64 BR1
+    0 ∷ 0 ∷ 0 ∷ 0 ∷ 4 ∷ 0 ∷ 0 ∷ 0 ∷ 0 ∷ 0 ∷ 0 ∷ 0 ∷ 0 ∷  -- 65 BR2
+    0 ∷ 0 ∷ 0 ∷ 4 ∷ 0 ∷ 0 ∷ 0 ∷ 0 ∷ 0 ∷ 0 ∷ 0 ∷ 0 ∷ 0 ∷  -- 66 BR3
+    37 ∷ 0 ∷ 1 ∷ 0 ∷ 8 ∷ 0 ∷ 4 ∷ 8 ∷ 0 ∷ 0 ∷ 0 ∷ 0 ∷ 0 ∷  -- 67 BR4
+    0 ∷ 78 ∷ 0 ∷ 0 ∷ 0 ∷ 0 ∷ 0 ∷ 0 ∷ 0 ∷ 0 ∷ 0 ∷ 0 ∷ 0 ∷  -- 68 BR6
+    17 ∷ 0 ∷ 0 ∷ 0 ∷ 9 ∷ 0 ∷ 8 ∷ 0 ∷ 10 ∷ 4 ∷ 0 ∷ 0 ∷ 0 ∷  -- 69 MP
+    0 ∷ 16 ∷ 0 ∷ 0 ∷ 5 ∷ 0 ∷ 6 ∷ 0 ∷ 0 ∷ 0 ∷ 0 ∷ 0 ∷ 0 ∷  -- 70 R1
+    16 ∷ 0 ∷ 0 ∷ 0 ∷ 8 ∷ 0 ∷ 0 ∷ 0 ∷ 9 ∷ 4 ∷ 0 ∷ 0 ∷ 0 ∷  -- 71 R2
+    16 ∷ 0 ∷ 0 ∷ 0 ∷ 8 ∷ 0 ∷ 0 ∷ 0 ∷ 10 ∷ 4 ∷ 0 ∷ 0 ∷ 0 ∷  -- 72 R2'
+    0 ∷ 17 ∷ 1 ∷ 0 ∷ 6 ∷ 5 ∷ 0 ∷ 0 ∷ 0 ∷ 0 ∷ 0 ∷ 0 ∷ 0 ∷  -- 73 R3
+    17 ∷ 0 ∷ 0 ∷ 9 ∷ 8 ∷ 0 ∷ 0 ∷ 0 ∷ 10 ∷ 4 ∷ 0 ∷ 0 ∷ 0 ∷  -- 74 R4
+    37 ∷ 0 ∷ 1 ∷ 0 ∷ 8 ∷ 7 ∷ 11 ∷ 7 ∷ 0 ∷ 0 ∷ 0 ∷ 0 ∷ 0 ∷  -- 75 R5
+    37 ∷ 18 ∷ 1 ∷ 0 ∷ 8 ∷ 5 ∷ 11 ∷ 5 ∷ 0 ∷ 0 ∷ 0 ∷ 0 ∷ 0 ∷  -- 76 R6
+    9479 ∷ 19 ∷ 0 ∷ 0 ∷ 12 ∷ 0 ∷ 0 ∷ 0 ∷ 0 ∷ 0 ∷ 12 ∷ 8 ∷ 6 ∷  -- 77 R7
+    9235 ∷ 0 ∷ 0 ∷ 0 ∷ 8 ∷ 0 ∷ 0 ∷ 0 ∷ 0 ∷ 0 ∷ 4 ∷ 12 ∷ 10 ∷  -- 78 R8
+    2429989 ∷ 0 ∷ 0 ∷ 0 ∷ 12 ∷ 0 ∷ 16 ∷ 0 ∷ 0 ∷ 0 ∷ 16 ∷ 13 ∷ 8 ∷  -- 79 R9
+    0 ∷ 20 ∷ 0 ∷ 0 ∷ 0 ∷ 0 ∷ 0 ∷ 0 ∷ 5 ∷ 6 ∷ 0 ∷ 0 ∷ 0 ∷ []  -- 80 R10
 
 -- column w of rule k, 0 for no rule
 unfoldable pub column : ℕ → ℕ → ℕ
-column k w = ifLt k 64 0 (ifLt 80 k 0 (getD rules (14 * (k - 64) + w) 0))
+column k w = ifLt k 64 0 (ifLt 80 k 0 (getD rules (13 * (k - 64) + w) 0))
 
 pub column-none : (k w : ℕ) → NoRule k → column k w ≡ 0
 unfolding column ifLt
@@ -70,7 +70,7 @@ column-none k w h = go (ltb k 64) refl
     past-by z true e = ltb-true 80 k e
     past-by z false e = let y : k ≤ 80 = ltb-false 80 k e in absurd (h k z y refl)
 
-    go : (b : Bool) → ltb k 64 ≡ b → _≡_ {A = ℕ} (elim b [ true ↦ 0 | false ↦ elim (ltb 80 k) [ true ↦ 0 | false ↦ getD rules (14 * (k - 64) + w) 0 ] ]) 0
+    go : (b : Bool) → ltb k 64 ≡ b → _≡_ {A = ℕ} (elim b [ true ↦ 0 | false ↦ elim (ltb 80 k) [ true ↦ 0 | false ↦ getD rules (13 * (k - 64) + w) 0 ] ]) 0
     go true e = refl
     go false e = let z : 64 ≤ k = ltb-false k 64 e in simp (lt-ltb 80 k (past-by z (ltb 80 k) refl))
 
@@ -88,12 +88,13 @@ premisesFrom ps st g e rest = ifEq g 0 [] (premise st (grown (st .members) ps (s
 
 -- the rows say what the table says
 module _ (ps : List Tree) (st : State) where
-  pub shapes-are : (k : ℕ) → (k ≡ 65 → ⊥) → row k ps st .shapes ≡ shapesOf (column k 0)
-  unfolding row ifEq ifLt column shapesOf shapesStep shapeOf down iter
+  -- in the number that the byte has
+  pub shapes-are : (k : ℕ) → (derivationParts k ≡ 15 → ⊥) → row k ps st .shapes ≡ shapesOf (derivationParts k) (column k 0)
+  unfolding row ifEq ifLt derivationParts derivationByte byteOf column shapesOf shapeOf down iter
   shapes-are =
-      by-rule (λ k. (k ≡ 65 → ⊥) → row k ps st .shapes ≡ shapesOf (column k 0))
+      by-rule (λ k. (derivationParts k ≡ 15 → ⊥) → row k ps st .shapes ≡ shapesOf (derivationParts k) (column k 0))
       (λ h. refl) (λ h. absurd (h refl)) (λ h. refl) (λ h. refl) (λ h. refl) (λ h. refl) (λ h. refl) (λ h. refl) (λ h. refl) (λ h. refl) (λ h. refl) (λ h. refl) (λ h. refl) (λ h. refl) (λ h. refl) (λ h. refl) (λ h. refl)
-      (λ k other h. rw (row-none k ps st other, column-none k 0 other) refl)
+      (λ k other h. rw (row-none k ps st other, ← parts-none k other) refl)
 
   pub goal-shapes-are : (k : ℕ) → row k ps st .goalShapes ≡ oneOf shapeOf (column k 1)
   unfolding row ifEq ifLt column oneOf shapeOf
@@ -101,13 +102,6 @@ module _ (ps : List Tree) (st : State) where
       by-rule (λ k. row k ps st .goalShapes ≡ oneOf shapeOf (column k 1))
       refl refl refl refl refl refl refl refl refl refl refl refl refl refl refl refl refl
       (λ k other. rw (row-none k ps st other, column-none k 1 other) refl)
-
-  pub count-is : (k : ℕ) → length (row k ps st .premises) ≡ column k 2
-  unfolding row ifEq ifLt column
-  count-is =
-      by-rule (λ k. length (row k ps st .premises) ≡ column k 2)
-      refl refl refl refl refl refl refl refl refl refl refl refl refl refl refl refl refl
-      (λ k other. rw (row-none k ps st other, column-none k 2 other) refl)
 
   pub needs-are : (k : ℕ) → (k ≡ 65 → ⊥) → row k ps st .needs ≡ oneOf (formTree ps (st .goal)) (column k 3)
   unfolding row ifEq ifLt column oneOf formTree stepTree sourceTree
@@ -189,7 +183,7 @@ module _ (k : ℕ) (rest : Rest 64 k 17) where
         column-none k 7 no-rule,
       )
 
-  pub back-rest : digits 0 6 ≡ columns k 8 6
+  pub back-rest : digits 0 5 ≡ columns k 8 5
   unfolding digits columns digit
   back-rest =
       rw (
@@ -198,5 +192,4 @@ module _ (k : ℕ) (rest : Rest 64 k 17) where
         column-none k 10 no-rule,
         column-none k 11 no-rule,
         column-none k 12 no-rule,
-        column-none k 13 no-rule,
       )

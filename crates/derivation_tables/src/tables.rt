@@ -3,9 +3,9 @@ ghost use mathlib.Core.Path.{_≡_};
 ghost use Prim.Native.Nat.{_<_};
 ghost use Rattle.derivation_tables.specs.Tables.{digit, digits, columns, column};
 
-// Fourteen columns a rule: 0 shapes of the parts; 1 shape of the goal; 2 number of premises; 3 form needed in the sequent;
+// Thirteen columns a rule: 0 shapes of the parts; 1 shape of the goal; 2 the most members that a premise adds; 3 form needed in the sequent;
 // 4 and 5 goal of premise 0 and the member that it adds; 6 and 7 the same of premise 1; 8 and 9 two forms that are equal;
-// 10 to 12 three forms, of which the first is the third with the second in place of index 0; 13 the most members that a premise adds.
+// 10 to 12 three forms, of which the first is the third with the second in place of index 0.
 // Each is a `match`, as the compiler would write a `const` array to the stack at each use.
 
 // Column 0 of rule k.
@@ -40,48 +40,48 @@ fn front(k: usize) -> usize
 {
     match k {
         64 => 0x00_00_04_00_00_00_00, // BR1
-        65 => 0x00_01_00_04_00_00_00, // BR2
+        65 => 0x00_00_00_04_00_00_00, // BR2
         66 => 0x00_00_04_00_00_00_00, // BR3
-        67 => 0x00_02_00_08_00_04_08, // BR4
+        67 => 0x00_01_00_08_00_04_08, // BR4
         68 => 0x4e_00_00_00_00_00_00, // BR6
-        69 => 0x00_02_00_09_00_08_00, // MP
-        70 => 0x10_02_00_05_00_06_00, // R1
-        71 => 0x00_01_00_08_00_00_00, // R2
-        72 => 0x00_01_00_08_00_00_00, // R2'
+        69 => 0x00_00_00_09_00_08_00, // MP
+        70 => 0x10_00_00_05_00_06_00, // R1
+        71 => 0x00_00_00_08_00_00_00, // R2
+        72 => 0x00_00_00_08_00_00_00, // R2'
         73 => 0x11_01_00_06_05_00_00, // R3
-        74 => 0x00_01_09_08_00_00_00, // R4
-        75 => 0x00_02_00_08_07_0b_07, // R5
-        76 => 0x12_02_00_08_05_0b_05, // R6
-        77 => 0x13_01_00_0c_00_00_00, // R7
-        78 => 0x00_01_00_08_00_00_00, // R8
-        79 => 0x00_02_00_0c_00_10_00, // R9
+        74 => 0x00_00_09_08_00_00_00, // R4
+        75 => 0x00_01_00_08_07_0b_07, // R5
+        76 => 0x12_01_00_08_05_0b_05, // R6
+        77 => 0x13_00_00_0c_00_00_00, // R7
+        78 => 0x00_00_00_08_00_00_00, // R8
+        79 => 0x00_00_00_0c_00_10_00, // R9
         80 => 0x14_00_00_00_00_00_00, // R10
         _ => 0,
     }
 }
 
-// Columns 8 to 13 of rule k, two hexadecimal digits each.
+// Columns 8 to 12 of rule k, two hexadecimal digits each.
 fn back(k: usize) -> usize
-    ensures { λ r. ⌜ digits r 6 ≡ columns k 8 6 ⌝ }
+    ensures { λ r. ⌜ digits r 5 ≡ columns k 8 5 ⌝ }
 {
     match k {
-        64 => 0x00_00_00_00_00_00, // BR1
-        65 => 0x00_00_00_00_00_00, // BR2
-        66 => 0x00_00_00_00_00_00, // BR3
-        67 => 0x00_00_00_00_00_01, // BR4
-        68 => 0x00_00_00_00_00_00, // BR6
-        69 => 0x0a_04_00_00_00_00, // MP
-        70 => 0x00_00_00_00_00_00, // R1
-        71 => 0x09_04_00_00_00_00, // R2
-        72 => 0x0a_04_00_00_00_00, // R2'
-        73 => 0x00_00_00_00_00_01, // R3
-        74 => 0x0a_04_00_00_00_00, // R4
-        75 => 0x00_00_00_00_00_01, // R5
-        76 => 0x00_00_00_00_00_01, // R6
-        77 => 0x00_00_0c_08_06_00, // R7
-        78 => 0x00_00_04_0c_0a_00, // R8
-        79 => 0x00_00_10_0d_08_00, // R9
-        80 => 0x05_06_00_00_00_00, // R10
+        64 => 0x00_00_00_00_00, // BR1
+        65 => 0x00_00_00_00_00, // BR2
+        66 => 0x00_00_00_00_00, // BR3
+        67 => 0x00_00_00_00_00, // BR4
+        68 => 0x00_00_00_00_00, // BR6
+        69 => 0x0a_04_00_00_00, // MP
+        70 => 0x00_00_00_00_00, // R1
+        71 => 0x09_04_00_00_00, // R2
+        72 => 0x0a_04_00_00_00, // R2'
+        73 => 0x00_00_00_00_00, // R3
+        74 => 0x0a_04_00_00_00, // R4
+        75 => 0x00_00_00_00_00, // R5
+        76 => 0x00_00_00_00_00, // R6
+        77 => 0x00_00_0c_08_06, // R7
+        78 => 0x00_00_04_0c_0a, // R8
+        79 => 0x00_00_10_0d_08, // R9
+        80 => 0x05_06_00_00_00, // R10
         _ => 0,
     }
 }
@@ -98,7 +98,7 @@ fn digit(n: usize, j: usize) -> usize
 
 // Column w of rule k, 0 for no rule.
 pub fn column(k: usize, w: usize) -> usize
-    requires { ⌜ w < 14 ⌝ }
+    requires { ⌜ w < 13 ⌝ }
     ensures { λ r. ⌜ r ≡ column k w ⌝ }
 {
     if w == 0 {
@@ -107,5 +107,5 @@ pub fn column(k: usize, w: usize) -> usize
     if w < 8 {
         return digit(front(k), 7 - w);
     }
-    digit(back(k), 13 - w)
+    digit(back(k), 12 - w)
 }

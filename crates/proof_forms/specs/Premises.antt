@@ -15,7 +15,8 @@ use Rattle.reader.specs.Chains.{items, premises, parts}
 use Rattle.reader.specs.TreeLaws.{items-zero, items-step}
 use Rattle.proof_rules.specs.Check.{rowOf}
 use Rattle.reader.specs.Members.{premisesFit}
-use Rattle.proof_forms.specs.Tables.{premiseCount, premises-are}
+use Rattle.rule_bytes.specs.Bytes.{proofPremises}
+use Rattle.rule_bytes.specs.ProofRows.{proof-premises}
 
 -- the items of chain c are n rule nodes
 unfoldable pub areNodes : Reader → ℕ → ℕ → Bool
@@ -56,7 +57,7 @@ module _ (rd : Reader) (c n : ℕ) where
     nodes-more r e = rw (items-step rd c (omega arith), one-more _ _ _ n wanted, ← ei, ← er, ← ek) e
 
 -- the premises of a node
-pub premises-of : (rd : Reader) (n k c count : ℕ) (r : Bool) → k ≡ rd n 0 → c ≡ lower rd n 2 → count ≡ premiseCount k → r ≡ areNodes rd c count →
+pub premises-of : (rd : Reader) (n k c count : ℕ) (r : Bool) → k ≡ rd n 0 → c ≡ lower rd n 2 → count ≡ proofPremises k → r ≡ areNodes rd c count →
     r ≡ premisesFit 1 rd n (length (rowOf rd n .adds))
 unfolding premisesFit rowOf premises areNodes
-premises-of rd n k c count r ek ec en e = rw (premises-are (map (tree rd) (parts rd n)) (rd n 0), ← ek, ← ec, ← en) e
+premises-of rd n k c count r ek ec en e = rw (proof-premises (map (tree rd) (parts rd n)) (rd n 0), ← ek, ← ec, ← en) e

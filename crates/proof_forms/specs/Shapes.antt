@@ -26,12 +26,10 @@ shapeStep sub s = ifLt s 32 (ofKind s) (ifLt s 64 (ofClass (s - 32)) (negated (s
 unfoldable pub shapeOf : ℕ → Shape
 shapeOf = down (ofKind 0) shapeStep
 
--- a list of shapes: a byte for each, the first's lowest
-unfoldable pub shapesStep : (ℕ → List Shape) → ℕ → List Shape
-shapesStep sub code = shapeOf (code % 256) ∷ sub (code / 256)
-
-unfoldable pub shapesOf : ℕ → List Shape
-shapesOf = down [] shapesStep
+-- n shapes: a byte for each, the first's lowest
+unfoldable pub shapesOf : ℕ → ℕ → List Shape
+shapesOf zero code = []
+shapesOf (suc n) code = shapeOf (code % 256) ∷ shapesOf n (code / 256)
 
 -- the shapes of rule 45's parts
 unfoldable pub instanceShapes : List Tree → Bool
@@ -44,18 +42,6 @@ shape-local f g s p h = rw (h (s - 64) (omega arith))
 shape-step : (s : ℕ) → 0 < s → shapeOf s ≡ shapeStep shapeOf s
 unfolding shapeOf
 shape-step s p = down-step (ofKind 0) shapeStep shape-local s p
-
-shapes-local : Local shapesStep
-unfolding shapesStep
-shapes-local f g s p h = rw (h (s / 256) (omega arith))
-
-shapes-step : (s : ℕ) → 0 < s → shapesOf s ≡ shapeOf (s % 256) ∷ shapesOf (s / 256)
-unfolding shapesOf shapesStep
-shapes-step s p = down-step [] shapesStep shapes-local s p
-
-shapes-zero : shapesOf 0 ≡ []
-unfolding shapesOf
-shapes-zero = down-zero [] shapesStep
 
 -- at 0 too
 shape-any : (s : ℕ) → shapeOf s ≡ shapeStep shapeOf s
@@ -85,25 +71,32 @@ module _ (rd : Reader) (i s k : ℕ) (ek : k ≡ kindOf (tree rd i)) where
           rw (shape-any s)
           (simp (shapeStep, ifLt, le-ltb s 32 high, le-ltb s 64 higher, hasShape, both, ← ek, eq-eqb k 18 h, first-tree rd i, ← ex) e)
 
+-- one shape more, of one more
+shapes-next : (n code : ℕ) (t : Tree) (ts : List Tree) → (n ≡ 0 → ⊥) →
+    haveShapes (shapesOf n code) (t ∷ ts) ≡ both (hasShape (shapeOf (code % 256)) t) (haveShapes (shapesOf (n - 1) (code / 256)) ts)
+unfolding haveShapes both shapesOf
+shapes-next zero code t ts h = absurd (h refl)
+shapes-next (suc n) code t ts h = let z : suc n - 1 ≡ n = omega arith in rw z refl
+
 -- The ways out of the code that goes along a chain.
-module _ (rd : Reader) (c code : ℕ) where
-  pub shapes-end : c ≡ 0 → eqb code 0 ≡ haveShapes (shapesOf code) (itemTrees rd c)
-  unfolding haveShapes
-  shapes-end h = rw (h, trees-zero rd) (go code)
+module _ (rd : Reader) (c n code : ℕ) where
+  pub shapes-end : c ≡ 0 → eqb n 0 ≡ haveShapes (shapesOf n code) (itemTrees rd c)
+  unfolding haveShapes shapesOf
+  shapes-end h = rw (h, trees-zero rd) (go n)
     where
-      go : (n : ℕ) → eqb n 0 ≡ haveShapes (shapesOf n) []
-      go zero = rw shapes-zero refl
-      go (suc n) = rw (shapes-step (suc n) (omega arith)) (eqb·suc-zero n)
+      go : (k : ℕ) → eqb k 0 ≡ haveShapes (shapesOf k code) []
+      go zero = refl
+      go (suc k) = eqb·suc-zero k
 
-  pub shapes-over : (c ≡ 0 → ⊥) → code ≡ 0 → false ≡ haveShapes (shapesOf code) (itemTrees rd c)
-  unfolding haveShapes
-  shapes-over h z = rw (z, trees-step rd c (omega arith), shapes-zero) refl
+  pub shapes-over : (c ≡ 0 → ⊥) → n ≡ 0 → false ≡ haveShapes (shapesOf n code) (itemTrees rd c)
+  unfolding haveShapes shapesOf
+  shapes-over h z = rw (z, trees-step rd c (omega arith)) refl
 
-  module _ (given : c ≡ 0 → ⊥) (wanted : code ≡ 0 → ⊥) (item rest : ℕ) (ei : item ≡ lower rd c 1) (er : rest ≡ lower rd c 3) where
-    pub shapes-more : (r : Bool) → r ≡ both (hasShape (shapeOf (code % 256)) (tree rd item)) (haveShapes (shapesOf (code / 256)) (itemTrees rd rest)) →
-        r ≡ haveShapes (shapesOf code) (itemTrees rd c)
-    unfolding haveShapes both
-    shapes-more r e = rw (shapes-step code (omega arith), trees-step rd c (omega arith), ← ei, ← er) e
+  module _ (given : c ≡ 0 → ⊥) (wanted : n ≡ 0 → ⊥) (item rest : ℕ) (ei : item ≡ lower rd c 1) (er : rest ≡ lower rd c 3) where
+    pub shapes-more : (r : Bool) →
+        r ≡ both (hasShape (shapeOf (code % 256)) (tree rd item)) (haveShapes (shapesOf (n - 1) (code / 256)) (itemTrees rd rest)) →
+        r ≡ haveShapes (shapesOf n code) (itemTrees rd c)
+    shapes-more r e = rw (trees-step rd c (omega arith), shapes-next n code _ _ wanted, ← ei, ← er) e
 
 -- types alone
 types-more : (n : ℕ) (t : Tree) (ts : List Tree) → (n ≡ 0 → ⊥) → haveShapes (replicate n type) (t ∷ ts) ≡ both (hasShape (shapeOf 35) t) (haveShapes (replicate (n - 1) type) ts)

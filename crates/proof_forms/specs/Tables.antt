@@ -1,10 +1,10 @@
--- What the rules 32 to 46 say of the number of premises and the shapes of parts, as tables, and that the rows say the same.
+-- What the rules 32 to 46 say of the shapes of parts, as a table, and that the rows say the same.
 use Prim.Native.Nat.{ℕ, _-_, _<_, _≤_}
-use mathlib.Core.Path.{_≡_, refl, sym}
+use mathlib.Core.Path.{_≡_, refl, sym, _∙_}
 use mathlib.Core.List.{List, [], _∷_, map}
 use mathlib.Core.Bool.{Bool, true, false}
 use lib.Dec.{ltb}
-use lib.ListN.{getD, length}
+use lib.ListN.{getD}
 use native.Mathlib.Omega.{arith}
 use borrow.Author.Tests.{lt-ltb, ltb-true, ltb-false}
 use Rattle.reader.specs.Tests.{ifEq, ifLt}
@@ -17,15 +17,14 @@ use Rattle.proof_rules.specs.Check.{rowOf}
 use Rattle.reader.specs.Down.{iter, down}
 use Rattle.proof_rules.specs.Rules.{row}
 use Rattle.proof_rules.specs.RowLaws.{NoRule, row-none, by-rule}
-use Rattle.proof_forms.specs.Shapes.{shapeStep, shapeOf, shapesStep, shapesOf, instanceShapes}
+use Rattle.rule_bytes.specs.Bytes.{byteOf, proofByte, proofParts}
+use Rattle.rule_bytes.specs.ProofRows.{parts-none, proof-varies}
+use Rattle.proof_forms.specs.Shapes.{shapeStep, shapeOf, shapesOf, instanceShapes}
 
 -- a byte for each part, the first's lowest: a kind, 32 and a class, or 64 and what stands under a ¬
 abbrev pub shapeCodes : List ℕ
 shapeCodes =
     0 ∷ 0 ∷ 37 ∷ 84 ∷ 20 ∷ 37 ∷ 165 ∷ 16 ∷ 81 ∷ 17 ∷ 80 ∷ 2426707 ∷ 2434067 ∷ 0 ∷ 159536915493 ∷ []
-
-abbrev pub premiseCounts : List ℕ
-premiseCounts = 0 ∷ 0 ∷ 0 ∷ 0 ∷ 0 ∷ 2 ∷ 1 ∷ 1 ∷ 1 ∷ 2 ∷ 2 ∷ 1 ∷ 1 ∷ 1 ∷ 2 ∷ []
 
 -- what stands at place i of a table of the fifteen rules, 0 for a kind k that is none
 unfoldable pub ruleEntry : List ℕ → ℕ → ℕ → ℕ
@@ -33,9 +32,6 @@ ruleEntry table k i = ifLt k 32 0 (ifLt 46 k 0 (getD table i 0))
 
 unfoldable pub shapeCode : ℕ → ℕ
 shapeCode k = ruleEntry shapeCodes k (k - 32)
-
-unfoldable pub premiseCount : ℕ → ℕ
-premiseCount k = ruleEntry premiseCounts k (k - 32)
 
 -- no rule has no entry
 pub entry-none : (table : List ℕ) (k i : ℕ) → NoRule k → ruleEntry table k i ≡ 0
@@ -50,34 +46,28 @@ entry-none table k i h = go (ltb k 32) refl
     go true e = refl
     go false e = let z : 32 ≤ k = ltb-false k 32 e in simp (lt-ltb 46 k (past-by z (ltb 46 k) refl))
 
--- the rows say what the tables say
-pub shapes-are : (ps : List Tree) (k : ℕ) → (k ≡ 45 → ⊥) → row k ps .shapes ≡ shapesOf (shapeCode k)
-unfolding row ifEq shapeCode ruleEntry ifLt shapesOf shapesStep shapeOf shapeStep down iter
+-- the rows say what the table says, in the number that the byte has
+pub shapes-are : (ps : List Tree) (k : ℕ) → (proofParts k ≡ 15 → ⊥) → row k ps .shapes ≡ shapesOf (proofParts k) (shapeCode k)
+unfolding row ifEq proofParts proofByte byteOf shapeCode ruleEntry ifLt shapesOf shapeOf shapeStep down iter
 shapes-are ps =
-    by-rule (λ k. (k ≡ 45 → ⊥) → row k ps .shapes ≡ shapesOf (shapeCode k))
+    by-rule (λ k. (proofParts k ≡ 15 → ⊥) → row k ps .shapes ≡ shapesOf (proofParts k) (shapeCode k))
     (λ h. refl) (λ h. refl) (λ h. refl) (λ h. refl) (λ h. refl)
     (λ h. refl) (λ h. refl) (λ h. refl) (λ h. refl) (λ h. refl)
     (λ h. refl) (λ h. refl) (λ h. refl) (λ h. absurd (h refl)) (λ h. refl)
-    (λ k other h. rw (row-none k ps other, entry-none shapeCodes k (k - 32) other) refl)
-
-pub premises-are : (ps : List Tree) (k : ℕ) → length (row k ps .adds) ≡ premiseCount k
-unfolding row ifEq premiseCount ruleEntry ifLt
-premises-are ps =
-    by-rule (λ k. length (row k ps .adds) ≡ premiseCount k)
-    refl refl refl refl refl refl refl refl refl refl refl refl refl refl refl
-    (λ k other. rw (row-none k ps other, entry-none premiseCounts k (k - 32) other) refl)
+    (λ k other h. rw (row-none k ps other, ← parts-none k other) refl)
 
 -- the last arm of the code's tables: no rule has no entry
 pub entry-rest : (table : List ℕ) (k i : ℕ) → Rest 32 k 15 → 0 ≡ ruleEntry table k i
 entry-rest table k i rest = sym (entry-none table k i (λ j low high same. omega (arith, rest-past 32 k 15 (omega arith) rest)))
 
 -- the shapes of a node's parts
-module _ (rd : Reader) (n k c : ℕ) (ek : k ≡ rd n 0) (ec : c ≡ lower rd n 1) where
-  pub shapes-45 : k ≡ 45 → (r : Bool) → r ≡ instanceShapes (itemTrees rd c) → r ≡ haveShapes (rowOf rd n .shapes) (map (tree rd) (parts rd n))
+module _ (rd : Reader) (n k c count : ℕ) (ek : k ≡ rd n 0) (ec : c ≡ lower rd n 1) (en : count ≡ proofParts k) where
+  pub shapes-varying : count ≡ 15 → (r : Bool) → r ≡ instanceShapes (itemTrees rd c) → r ≡ haveShapes (rowOf rd n .shapes) (map (tree rd) (parts rd n))
   unfolding rowOf parts instanceShapes itemTrees row ifEq
-  shapes-45 h r e = rw (← ek, h, ← ec) e
+  shapes-varying h r e = rw (← ek, proof-varies k (sym en ∙ h), ← ec) e
 
-  pub shapes-other : (k ≡ 45 → ⊥) → (code : ℕ) (r : Bool) → code ≡ shapeCode k → r ≡ haveShapes (shapesOf code) (itemTrees rd c) →
+  pub shapes-counted : (count ≡ 15 → ⊥) → (code : ℕ) (r : Bool) → code ≡ shapeCode k → r ≡ haveShapes (shapesOf count code) (itemTrees rd c) →
       r ≡ haveShapes (rowOf rd n .shapes) (map (tree rd) (parts rd n))
   unfolding rowOf parts itemTrees
-  shapes-other h code r es e = rw (← ek, shapes-are (map (tree rd) (items rd (lower rd n 1))) k h, ← es, ← ec) e
+  shapes-counted h code r es e =
+      rw (← ek, shapes-are (map (tree rd) (items rd (lower rd n 1))) k (λ z. h (en ∙ z)), ← es, ← ec, ← en) e

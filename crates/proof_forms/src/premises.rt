@@ -1,5 +1,4 @@
 // The premises of a node: their number and class.
-use crate::tables;
 use reader::kinds;
 use reader::trees;
 use reader::words;
@@ -35,5 +34,5 @@ pub fn premises_fit(obligation: &[u8], second: &[u8], m: usize, n: usize) -> boo
 {
     let k = words::word_at(obligation, second, m, n, 0);
     let c = trees::lower_at(obligation, second, m, n, 2);
-    are_nodes(obligation, second, m, c, tables::premise_count(k))
+    are_nodes(obligation, second, m, c, rule_bytes::proof_premises(k))
 }

@@ -37,14 +37,14 @@ pub fn has_shape(obligation: &[u8], second: &[u8], m: usize, i: usize, s: usize)
     )
 }
 
-// Have the items of chain c the shapes that the bytes of `code` number, the lowest byte the first's?
-pub fn have_shapes(obligation: &[u8], second: &[u8], m: usize, c: usize, code: usize) -> bool
-    ensures { λ r. ⌜ r ≡ haveShapes (shapesOf code) (itemTrees (word (now (obligation .entry)) (now (second .entry)) m) c) ⌝ }
+// Are the items of chain c n, with the shapes that the bytes of `code` number, the lowest byte the first's?
+fn have_shapes(obligation: &[u8], second: &[u8], m: usize, c: usize, n: usize, code: usize) -> bool
+    ensures { λ r. ⌜ r ≡ haveShapes (shapesOf n code) (itemTrees (word (now (obligation .entry)) (now (second .entry)) m) c) ⌝ }
 {
     if c == 0 {
-        return code == 0;
+        return n == 0;
     }
-    if code == 0 {
+    if n == 0 {
         return false;
     }
     let item = trees::lower_at(obligation, second, m, c, 1);
@@ -52,7 +52,7 @@ pub fn have_shapes(obligation: &[u8], second: &[u8], m: usize, c: usize, code: u
     if !has_shape(obligation, second, m, item, code % 256) {
         return false;
     }
-    have_shapes(obligation, second, m, rest, code / 256)
+    have_shapes(obligation, second, m, rest, n - 1, code / 256)
 }
 
 // Are the items of chain c n types?
@@ -97,8 +97,10 @@ pub fn shapes_fit(obligation: &[u8], second: &[u8], m: usize, n: usize) -> bool
 {
     let k = words::word_at(obligation, second, m, n, 0);
     let c = trees::lower_at(obligation, second, m, n, 1);
-    if k == 45 {
+    let count = rule_bytes::proof_parts(k);
+    // The number varies: it is that of 45's first part.
+    if count == 15 {
         return instance_shapes(obligation, second, m, c);
     }
-    have_shapes(obligation, second, m, c, tables::shape_code(k))
+    have_shapes(obligation, second, m, c, count, tables::shape_code(k))
 }

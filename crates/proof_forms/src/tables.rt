@@ -1,7 +1,6 @@
-// What the rules 32 to 46 say of the number of premises and the shapes of parts, as tables. Each is a `match`, as the compiler would write a `const` array to
-// the stack at each use.
+// What the rules 32 to 46 say of the shapes of parts, as a table. It is a `match`, as the compiler would write a `const` array to the stack at each use.
 ghost use mathlib.Core.Path.{_≡_};
-ghost use Rattle.proof_forms.specs.Tables.{shapeCode, premiseCount};
+ghost use Rattle.proof_forms.specs.Tables.{shapeCode};
 
 // The shapes of the parts of rule k, none for 45, whose parts its first part counts. A byte for each part, the first's lowest: a kind, 32 and a class, or 64 and
 // what stands under a ¬.
@@ -24,30 +23,6 @@ pub fn shape_code(k: usize) -> usize
         44 => 2434067,
         45 => 0,
         46 => 159536915493,
-        _ => 0,
-    }
-}
-
-// The number of premises of rule k.
-pub fn premise_count(k: usize) -> usize
-    ensures { λ r. ⌜ r ≡ premiseCount k ⌝ }
-{
-    match k {
-        32 => 0,
-        33 => 0,
-        34 => 0,
-        35 => 0,
-        36 => 0,
-        37 => 2,
-        38 => 1,
-        39 => 1,
-        40 => 1,
-        41 => 2,
-        42 => 2,
-        43 => 1,
-        44 => 1,
-        45 => 1,
-        46 => 2,
         _ => 0,
     }
 }

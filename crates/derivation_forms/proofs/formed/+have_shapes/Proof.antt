@@ -46,6 +46,8 @@ pub +have-shapes-spec : {M : Type 1} → statement M
     (λ c κs. search key-normal)
     -- returns-3: if3; 1 has-shape; 2 key-of; 3 lower-at2; 4 lower-at; 5 if2; 6 if1; 10 args
     (λ c. search (shapes-more, boths, key-shape))
+    -- sub-have-shapes: if3; 1 has-shape; 2 key-of; 3 lower-at2; 4 lower-at; 5 if2; 6 if1; 10 args
+    (λ c. search needs)
     -- have-shapes-requires: if3; 1 has-shape; 2 key-of; 3 lower-at2; 4 lower-at; 5 if2; 6 if1; 10 args
     (λ c κs. (
       next-falls _ _ _ t (c .before .before .before .before .before .before .before .before .before .before .pre .0) (c .before .before .before .before .before .before .if1 .left)

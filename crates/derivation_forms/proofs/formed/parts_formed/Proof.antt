@@ -1,6 +1,6 @@
 use borrow.Author.Needs.{needs}
 use native.Mathlib.Omega.{arith}
-use Rattle.derivation_forms.specs.Formed.{formed-65, formed-other, chain-in}
+use Rattle.derivation_forms.specs.Formed.{formed-varying, formed-counted, chain-in}
 use Rattle.derivation_forms.proofs.formed.parts_formed.Statement.{statement}
 use Rattle.derivation_forms.proofs.formed.parts_formed.Tie as tie
 
@@ -10,13 +10,15 @@ parts-formed-spec = tie.close (tie.spec
     (λ c κs. search needs)
     -- lower-at-requires: word-at; 4 args
     (λ c κs. search needs)
-    -- are-formulas-requires: if1; 1 lower-at; 2 word-at; 6 args
-    (λ c κs. (search needs, search chain-in))
-    -- returns: are-formulas; 1 if1; 2 lower-at; 3 word-at; 7 args
-    (λ c. search formed-65)
-    -- column-requires: if1; 1 lower-at; 2 word-at; 6 args
+    -- derivation-parts-requires: lower-at; 1 word-at; 5 args
     (λ c κs. search needs)
-    -- have-shapes-requires: column; 1 if1; 2 lower-at; 3 word-at; 7 args
+    -- are-formulas-requires: if1; 1 derivation-parts; 2 lower-at; 3 word-at; 7 args
     (λ c κs. (search needs, search chain-in))
-    -- returns-2: have-shapes; 1 column; 2 if1; 3 lower-at; 4 word-at; 8 args
-    (λ c. search formed-other))
+    -- returns: are-formulas; 1 if1; 2 derivation-parts; 3 lower-at; 4 word-at; 8 args
+    (λ c. search formed-varying)
+    -- column-requires: if1; 1 derivation-parts; 2 lower-at; 3 word-at; 7 args
+    (λ c κs. search needs)
+    -- have-shapes-requires: column; 1 if1; 2 derivation-parts; 3 lower-at; 4 word-at; 8 args
+    (λ c κs. (search needs, search chain-in))
+    -- returns-2: have-shapes; 1 column; 2 if1; 3 derivation-parts; 4 lower-at; 5 word-at; 9 args
+    (λ c. search formed-counted))

@@ -8,9 +8,9 @@ pub premises-fit-spec : {M : Type 1} → statement M
 premises-fit-spec = tie.close (tie.spec
     -- word-at-requires: 2 args
     (λ c κs. search needs)
-    -- column-requires: word-at; 3 args
+    -- derivation-premises-requires: word-at; 3 args
     (λ c κs. search needs)
-    -- premises-fit-requires: column; 1 word-at; 4 args
+    -- premises-fit-requires: derivation-premises; 1 word-at; 4 args
     (λ c κs. search needs)
-    -- returns: premises-fit; 1 column; 2 word-at; 5 args
+    -- returns: premises-fit; 1 derivation-premises; 2 word-at; 5 args
     (λ c. search premises-at))

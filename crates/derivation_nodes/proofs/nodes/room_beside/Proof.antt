@@ -15,13 +15,13 @@ room-beside-spec = tie.close (tie.spec
     (λ c κs. search needs)
     -- returns: at-most; 1 lower-at; 2 if1; 3 word-at; 6 args
     (λ c. search room-parts)
-    -- column-requires: if1; 1 word-at; 4 args
+    -- derivation-premises-requires: if1; 1 word-at; 4 args
     (λ c κs. search needs)
-    -- returns-2: if2; 1 column; 2 if1; 3 word-at; 6 args
+    -- returns-2: if2; 1 derivation-premises; 2 if1; 3 word-at; 6 args
     (λ c. search room-none)
-    -- column-requires-2: if2; 1 column; 2 if1; 3 word-at; 6 args
+    -- column-requires: if2; 1 derivation-premises; 2 if1; 3 word-at; 6 args
     (λ c κs. search needs)
-    -- add-result: column2; 1 if2; 2 column; 3 if1; 4 word-at; 7 args
-    (λ c. omega (arith, c .before .before .before .before .before .before .before .pre, c .column2 .ensures, added-few (c .before .before .before .before .word-at .result)))
-    -- returns-3: column2; 1 if2; 2 column; 3 if1; 4 word-at; 7 args
+    -- add-result: column; 1 if2; 2 derivation-premises; 3 if1; 4 word-at; 7 args
+    (λ c. omega (arith, c .before .before .before .before .before .before .before .pre, c .column .ensures, added-few (c .before .before .before .before .word-at .result)))
+    -- returns-3: column; 1 if2; 2 derivation-premises; 3 if1; 4 word-at; 7 args
     (λ c. search room-some))

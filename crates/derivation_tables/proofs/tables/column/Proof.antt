@@ -26,4 +26,4 @@ column-spec = tie.close (tie.spec
     -- digit-requires-2: back; 1 if2; 2 if1; 3 args
     (λ c κs. search needs)
     -- returns-3: digit2; 1 back; 2 if2; 3 if1; 4 args
-    (λ c. c .digit2 .ensures ∙ column-at _ _ 8 6 (c .before .back .ensures) (c .before .before .before .before .args .w) (omega arith) (omega arith)))
+    (λ c. c .digit2 .ensures ∙ column-at _ _ 8 5 (c .before .back .ensures) (c .before .before .before .before .args .w) (omega arith) (omega arith)))

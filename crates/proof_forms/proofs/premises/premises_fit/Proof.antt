@@ -9,9 +9,9 @@ premises-fit-spec = tie.close (tie.spec
     (λ c κs. search needs)
     -- lower-at-requires: word-at; 3 args
     (λ c κs. search needs)
-    -- premise-count-requires: lower-at; 1 word-at; 4 args
+    -- proof-premises-requires: lower-at; 1 word-at; 4 args
     (λ c κs. search needs)
-    -- are-nodes-requires: premise-count; 1 lower-at; 2 word-at; 5 args
+    -- are-nodes-requires: proof-premises; 1 lower-at; 2 word-at; 5 args
     (λ c κs. search needs)
-    -- returns: are-nodes; 1 premise-count; 2 lower-at; 3 word-at; 6 args
+    -- returns: are-nodes; 1 proof-premises; 2 lower-at; 3 word-at; 6 args
     (λ c. search premises-of))

@@ -43,6 +43,8 @@ pub +have-shapes-spec : {M : Type 1} → statement M
     (λ c κs. search needs)
     -- returns-3: if3; 1 has-shape; 2 lower-at2; 3 lower-at; 4 if2; 5 if1; 8 args
     (λ c. search (shapes-more, boths))
+    -- sub-have-shapes: if3; 1 has-shape; 2 lower-at2; 3 lower-at; 4 if2; 5 if1; 8 args
+    (λ c. search needs)
     -- have-shapes-requires: if3; 1 has-shape; 2 lower-at2; 3 lower-at; 4 if2; 5 if1; 8 args
     (λ c κs. (next-falls _ _ _ t (c .before .before .before .before .before .before .before .before .pre .0) (c .before .before .before .before .before .if1 .left) (c .before .before .lower-at2 .ensures), tt))
     -- returns-4: have-shapes; 1 if3; 2 has-shape; 3 lower-at2; 4 lower-at; 5 if2; 6 if1; 9 args

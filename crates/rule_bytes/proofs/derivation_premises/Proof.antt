@@ -1,0 +1,13 @@
+use borrow.Author.Needs.{needs}
+use mathlib.Core.Path.{ap}
+use Prim.Native.Nat.{ℕ, _%_}
+use Rattle.rule_bytes.specs.Bytes.{derivationPremises}
+use Rattle.rule_bytes.proofs.derivation_premises.Statement.{statement}
+use Rattle.rule_bytes.proofs.derivation_premises.Tie as tie
+
+pub derivation-premises-spec : {M : Type 1} → statement M
+unfolding derivationPremises
+derivation-premises-spec = tie.close (tie.spec
+    (λ c κs. search needs)
+    (λ c. search needs)
+    (λ c. ap (λ (b : ℕ). b % 16) (c .derivation-byte .ensures)))

@@ -1,0 +1,4 @@
+pub mod Bytes
+pub mod ByteLaws
+pub mod ProofRows
+pub mod DerivationRows
