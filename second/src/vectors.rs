@@ -5,12 +5,13 @@ use crate::Answer;
 use std::path::Path;
 
 /// The files of answers.
-pub const FILES: [&str; 5] = [
+pub const FILES: [&str; 6] = [
     "readings.txt",
     "special.txt",
     "pairs.txt",
     "u1.txt",
     "u3.txt",
+    "u4.txt",
 ];
 /// The files of listings.
 pub const LISTINGS: [&str; 2] = ["u2.txt", "u2_after_u3.txt"];

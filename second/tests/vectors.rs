@@ -48,6 +48,11 @@ fn u3() {
     run("u3.txt");
 }
 
+#[test]
+fn u4() {
+    run("u4.txt");
+}
+
 fn run_listings(file: &str, count: usize) {
     let cases = listings(file);
     println!("{file}: {} cases", cases.len());
