@@ -1,4 +1,4 @@
-//! The cases of the vector files.
+//! The cases of the vector files, and U4's bytes of the rules.
 
 use crate::reader::Second;
 use crate::Answer;
@@ -30,6 +30,15 @@ pub struct ListingVector {
     pub obligation: Vec<u8>,
     pub proof: Vec<u8>,
     pub output: Vec<u8>,
+}
+
+/// The numbers of a rule as U4 has them: 15 stands for one that varies.
+#[derive(Clone, Copy, Debug, PartialEq, Eq)]
+pub struct RuleByte {
+    pub kind: u32,
+    pub byte: usize,
+    pub parts: usize,
+    pub premises: usize,
 }
 
 fn text_of(file: &str) -> String {
@@ -90,6 +99,27 @@ fn listing<'a>(first: &str, lines: &mut impl Iterator<Item = &'a str>) -> Listin
         obligation,
         proof,
         output: output.into_bytes(),
+    }
+}
+
+/// The lines of `u4_bytes.txt`.
+pub fn rule_bytes() -> Vec<RuleByte> {
+    let text = text_of("u4_bytes.txt");
+    let lines = text.lines().filter(|line| !line.starts_with('#'));
+    lines.map(rule_byte).collect()
+}
+
+fn rule_byte(line: &str) -> RuleByte {
+    let words: Vec<&str> = line.split_whitespace().collect();
+    let [kind, byte, parts, premises] = words[..] else {
+        panic!("four numbers are wanted in {line}");
+    };
+    let number = |word: &str| word.parse().expect("a number");
+    RuleByte {
+        kind: number(kind) as u32,
+        byte: usize::from_str_radix(byte, 16).expect("a hexadecimal byte"),
+        parts: number(parts),
+        premises: number(premises),
     }
 }
 
