@@ -2,6 +2,7 @@
 
 use crate::generate::{derivation_case, promised, proof_case, Case};
 use crate::kinds::CHOICE;
+use crate::numbers::Numbers;
 use crate::positions::{self, Position};
 use crate::reader::Second;
 use crate::{check_counting, words, Answer};
@@ -35,6 +36,7 @@ pub struct Coverage {
     /// Its nodes in accepted files.
     pub nodes: [u64; 81],
     pub choices: Choices,
+    pub numbers: Numbers,
     /// Cases whose label promised another answer.
     pub broken: Vec<String>,
 }
@@ -108,6 +110,7 @@ impl Coverage {
             files: [0; 81],
             nodes: [0; 81],
             choices: Choices::default(),
+            numbers: Numbers::new(rules(kind)),
             broken: Vec::new(),
         }
     }
@@ -132,6 +135,7 @@ impl Coverage {
         let (answer, rules) = check_counting(&case.obligation, &case.second, self.kind);
         self.cases += 1;
         self.choices.add(case, self.kind, answer);
+        self.numbers.add(case, self.kind, answer);
         if !answer.is_accepted() {
             self.refusals[answer.refusal as usize][answer.file as usize] += 1;
             return answer;
@@ -189,6 +193,6 @@ impl fmt::Display for Coverage {
             let (files, nodes) = (self.files[rule], self.nodes[rule]);
             writeln!(f, "  {rule:>7} {files:>16} {nodes:>11}")?;
         }
-        write!(f, "{}", self.choices)
+        write!(f, "{}{}", self.choices, self.numbers)
     }
 }

@@ -10,6 +10,7 @@ pub mod generate;
 pub mod kinds;
 mod listing;
 pub mod names;
+pub mod numbers;
 pub mod positions;
 pub mod proof;
 pub mod reader;
