@@ -12,6 +12,8 @@ use second::reader::Second;
 
 const SEEDS: u64 = 20_000;
 const WANTED: u64 = 20;
+/// For each rule with one part or premise fewer or more.
+const WANTED_NUMBERS: u64 = 10;
 const LARGE_SEEDS: u64 = 200;
 
 fn covers(kind: Second) {
@@ -25,6 +27,8 @@ fn covers(kind: Second) {
     // A proof has no limit of depth: 18 cannot occur there.
     assert!(kind == Second::Derivation || coverage.cases_of(18) == 0);
     covers_choices(&coverage);
+    let numbers = &coverage.numbers;
+    assert!(numbers.fewest() >= WANTED_NUMBERS, "{numbers}");
 }
 
 /// Choices stand in every place of accepted files, and are at fault at 4, 5, 7, 10 and 13 to 16.

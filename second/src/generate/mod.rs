@@ -14,6 +14,7 @@ pub mod gadgets;
 pub mod limits;
 pub mod marks;
 pub mod near;
+pub mod numbers;
 pub mod odd;
 pub mod odd_choices;
 pub mod proof_limits;
@@ -33,6 +34,7 @@ pub use near::large_cases;
 use crate::reader::Second;
 use expect::Expect;
 use gadgets::{Bench, Place, GADGETS};
+use numbers::number_case;
 use proofs::{Draft, Shape};
 use rng::Rng;
 use root_damage::RootDamage;
@@ -64,6 +66,9 @@ pub fn promised(label: &str) -> Option<u64> {
     }
 }
 
+/// One in so many seeds is about the number of parts or premises alone.
+const NUMBER_SHARE: u64 = 25;
+
 fn most_records(kind: Second) -> usize {
     match kind {
         Second::Proof => 3_073,
@@ -91,6 +96,9 @@ struct Written {
 
 fn case(kind: Second, seed: u64) -> Case {
     let mut rng = Rng::new(seed.wrapping_mul(2) + u64::from(kind == Second::Derivation));
+    if seed % NUMBER_SHARE == NUMBER_SHARE - 1 {
+        return number_case(kind, seed / NUMBER_SHARE, &mut rng);
+    }
     if rng.below(120) == 0 {
         return big_case(kind, &mut rng);
     }

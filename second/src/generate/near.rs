@@ -62,7 +62,8 @@ fn near_miss(kind: Second, rng: &mut Rng, world: &mut World, draft: &Draft) -> O
     )
 }
 
-fn written(
+/// The case as it comes out; None if it is too long.
+pub fn written(
     kind: Second,
     rng: &mut Rng,
     world: &World,

@@ -46,14 +46,14 @@ fn any_node(world: &mut World, draft: &Draft) -> usize {
 }
 
 /// A random node for which the test holds.
-fn node_with(world: &mut World, tree: &Tree, test: impl Fn(usize) -> bool) -> Option<usize> {
+pub fn node_with(world: &mut World, tree: &Tree, test: impl Fn(usize) -> bool) -> Option<usize> {
     let count = tree.nodes.len();
     let from = world.rng.below(count);
     (0..count).map(|i| (from + i) % count).find(|&i| test(i))
 }
 
 /// Leaves out the nodes that are no longer reached, the order kept.
-fn prune(tree: &mut Tree) {
+pub fn prune(tree: &mut Tree) {
     let mut reached = vec![false; tree.nodes.len()];
     reached[0] = true;
     for i in 0..tree.nodes.len() {
