@@ -22,7 +22,7 @@ use Rattle.derivation_trees.specs.Table.{KeyOf}
 use Rattle.derivation_trees.specs.Shapes.{shapeOf}
 use Rattle.derivation_frames.specs.Frames.{chainTrees}
 use Rattle.derivation_forms.specs.Forms.{lower-most}
-use Rattle.rule_bytes.specs.Bytes.{derivationParts}
+use Rattle.rule_bytes.specs.Bytes.{derivationByte, partsOf}
 use Rattle.rule_bytes.specs.DerivationRows.{derivation-varies}
 use Rattle.derivation_tables.specs.Tables.{shapesOf, column, oneOf, shapes-are, goal-shapes-are}
 
@@ -33,8 +33,8 @@ isFormula t = hasShape (shapeOf 37) t
 -- the parts of node n have the number, classes and forms of its rule
 unfoldable pub partsFormed : Reader → ℕ → Bool
 partsFormed rd n =
-    ifEq (derivationParts (rd n 0)) 15 (every isFormula (bareParts rd n))
-    (haveShapes (shapesOf (derivationParts (rd n 0)) (column (rd n 0) 0)) (bareParts rd n))
+    ifEq (partsOf (derivationByte (rd n 0))) 15 (every isFormula (bareParts rd n))
+    (haveShapes (shapesOf (partsOf (derivationByte (rd n 0))) (column (rd n 0) 0)) (bareParts rd n))
 
 -- the goal has the form that rule k shows, where it shows one
 unfoldable pub goalShaped : ℕ → Tree → Bool
@@ -55,14 +55,14 @@ unfolding partsFormed ifEq
 parts-formed rd n st = go (rd n 0) (bareParts rd n)
   where
     go : (k : ℕ) (ps : List Tree) →
-        ifEq (derivationParts k) 15 (every isFormula ps) (haveShapes (shapesOf (derivationParts k) (column k 0)) ps) ≡ haveShapes (row k ps st .shapes) ps
-    go k ps = by (eqb (derivationParts k) 15) refl
+        ifEq (partsOf (derivationByte k)) 15 (every isFormula ps) (haveShapes (shapesOf (partsOf (derivationByte k)) (column k 0)) ps) ≡ haveShapes (row k ps st .shapes) ps
+    go k ps = by (eqb (partsOf (derivationByte k)) 15) refl
       where
-        by : (b : Bool) → eqb (derivationParts k) 15 ≡ b →
-            elim b as (λ x. Bool) [ true ↦ every isFormula ps | false ↦ haveShapes (shapesOf (derivationParts k) (column k 0)) ps ] ≡
+        by : (b : Bool) → eqb (partsOf (derivationByte k)) 15 ≡ b →
+            elim b as (λ x. Bool) [ true ↦ every isFormula ps | false ↦ haveShapes (shapesOf (partsOf (derivationByte k)) (column k 0)) ps ] ≡
             haveShapes (row k ps st .shapes) ps
-        by true e = rw (derivation-varies k (eqb-true (derivationParts k) 15 e), shapes-65 ps st) (sym (formulas-are ps))
-        by false e = rw (shapes-are ps st k (eqb-false (derivationParts k) 15 e)) refl
+        by true e = rw (derivation-varies k (eqb-true (partsOf (derivationByte k)) 15 e), shapes-65 ps st) (sym (formulas-are ps))
+        by false e = rw (shapes-are ps st k (eqb-false (partsOf (derivationByte k)) 15 e)) refl
 
 pub goal-shaped : (k : ℕ) (ps : List Tree) (st : State) (goal : Tree) → goalShaped k goal ≡ goalFormed (row k ps st .goalShapes) goal
 unfolding goalShaped goalFormed oneOf ifEq every
@@ -156,14 +156,14 @@ unfolding isFormula
 key-formula rd size x item r k e = rw (← k .stands .means) e
 
 -- The ways out of `parts_formed` and `goal_formed`.
-module _ (rd : Reader) (n k c count : ℕ) (ek : k ≡ rd n 0) (ec : c ≡ lower rd n 1) (en : count ≡ derivationParts k) where
+module _ (rd : Reader) (n k c byte count : ℕ) (ek : k ≡ rd n 0) (ec : c ≡ lower rd n 1) (eb : byte ≡ derivationByte (rd n 0)) (en : count ≡ partsOf byte) where
   pub formed-varying : count ≡ 15 → (r : Bool) → r ≡ every isFormula (chainTrees rd c) → r ≡ partsFormed rd n
   unfolding partsFormed bareParts parts chainTrees
-  formed-varying h r e = rw (← ek, ← ec, ← en) (eq-yes count 15 _ _ r h e)
+  formed-varying h r e = rw (← eb, ← ec, ← en) (eq-yes count 15 _ _ r h e)
 
   pub formed-counted : (count ≡ 15 → ⊥) → (code : ℕ) (r : Bool) → code ≡ column k 0 → r ≡ haveShapes (shapesOf count code) (chainTrees rd c) → r ≡ partsFormed rd n
   unfolding partsFormed bareParts parts chainTrees
-  formed-counted h code r es e = rw (← ek, ← es, ← ec, ← en) (eq-no count 15 _ _ r h e)
+  formed-counted h code r es e = rw (← eb, ← ec, ← en, ← ek, ← es) (eq-no count 15 _ _ r h e)
 
 pub chain-in : (rd : Reader) (n c size : ℕ) → c ≡ lower rd n 1 → n < size → c < size
 chain-in rd n c size e p = omega (arith, lower-most rd n 1)

@@ -13,6 +13,7 @@ ghost use Rattle.reader.specs.Shapes.{haveShapes};
 ghost use Rattle.derivation_trees.specs.Keys.{decoded, Normal};
 ghost use Rattle.derivation_trees.specs.Table.{Table};
 ghost use Rattle.derivation_frames.specs.Frames.{chainTrees};
+ghost use Rattle.rule_bytes.specs.Bytes.{derivationByte};
 ghost use Rattle.derivation_tables.specs.Tables.{shapesOf};
 ghost use Rattle.derivation_forms.specs.Formed.{isFormula, partsFormed, goalShaped};
 
@@ -61,14 +62,21 @@ fn are_formulas(obligation: &[u8], second: &[u8], m: usize, keys: &[usize], c: u
     true
 }
 
-// Have the parts of node n the number, classes and forms of its rule?
-pub fn parts_formed(obligation: &[u8], second: &[u8], m: usize, keys: &[usize], n: usize) -> bool
-    requires { ⌜ Table (word (now obligation) (now second) m) (now keys) × (n < length (now keys)) ⌝ }
+// Have the parts of node n the number, classes and forms of its rule? `byte` is the rule's.
+pub fn parts_formed(
+    obligation: &[u8],
+    second: &[u8],
+    m: usize,
+    keys: &[usize],
+    n: usize,
+    byte: u8,
+) -> bool
+    requires { ⌜ Table (word (now obligation) (now second) m) (now keys) × (n < length (now keys)) × (byte ≡ derivationByte (word (now obligation) (now second) m n 0)) ⌝ }
     ensures { λ r. ⌜ r ≡ partsFormed (word (now (obligation .entry)) (now (second .entry)) m) n ⌝ }
 {
     let k = words::word_at(obligation, second, m, n, 0);
     let c = trees::lower_at(obligation, second, m, n, 1);
-    let count = rule_bytes::derivation_parts(k);
+    let count = rule_bytes::parts_of(byte);
     // The number varies: BR2 keeps any number of members.
     if count == 15 {
         return are_formulas(obligation, second, m, keys, c);

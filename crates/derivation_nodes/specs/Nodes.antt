@@ -19,7 +19,7 @@ use Rattle.derivation_closedness.specs.Reaches.{Unmarked}
 use Rattle.derivation_replacement.specs.Replaced.{Tables}
 use Rattle.derivation_rules.specs.RowLaws.{by-rule}
 use Rattle.derivation_frames.specs.Frames.{goalAt, countAt, membersAt, stateOf, Framed}
-use Rattle.rule_bytes.specs.Bytes.{derivationPremises}
+use Rattle.rule_bytes.specs.Bytes.{derivationByte, premisesOf}
 use Rattle.rule_bytes.specs.DerivationRows.{derivation-premises}
 use Rattle.derivation_tables.specs.Tables.{column, column-none}
 use Rattle.derivation_forms.specs.Formed.{partsFormed, goalShaped, parts-formed, goal-shaped}
@@ -38,7 +38,7 @@ unfoldable pub goalShapedAt : Reader → Tree → ℕ → Bool
 goalShapedAt rd goal n = goalShaped (rd n 0) goal
 
 unfoldable pub premisesAt : Reader → ℕ → Bool
-premisesAt rd n = premisesFit 2 rd n (derivationPremises (rd n 0))
+premisesAt rd n = premisesFit 2 rd n (premisesOf (derivationByte (rd n 0)))
 
 -- what must be among the members is, and what must not is not
 unfoldable pub membersFit : Reader → List Tree → Tree → ℕ → Bool
@@ -91,9 +91,9 @@ pub goal-fits : (rd : Reader) (frames : List ℕ) (d n k goal : ℕ) (r : Bool) 
 unfolding goalShapedAt
 goal-fits rd frames d n k goal r ek eg e = rw (← ek, ← eg) e
 
-pub premises-at : (rd : Reader) (n k count : ℕ) (r : Bool) → k ≡ rd n 0 → count ≡ derivationPremises k → r ≡ premisesFit 2 rd n count → r ≡ premisesAt rd n
+pub premises-at : (rd : Reader) (n byte count : ℕ) (r : Bool) → byte ≡ derivationByte (rd n 0) → count ≡ premisesOf byte → r ≡ premisesFit 2 rd n count → r ≡ premisesAt rd n
 unfolding premisesAt
-premises-at rd n k count r ek ec e = rw (← ek, ← ec) e
+premises-at rd n byte count r eb ec e = rw (← eb, ← ec) e
 
 pub fits-at : (rd : Reader) (frames : List ℕ) (d n goal : ℕ) (r : Bool) → goal ≡ goalAt frames d → r ≡ nodeFits rd (decoded rd goal) n →
     r ≡ nodeFits rd (decoded rd (goalAt frames d)) n

@@ -17,14 +17,14 @@ use Rattle.derivation_rules.specs.Rules.{State, row}
 use Rattle.reader.specs.Members.{part}
 use Rattle.derivation_rules.specs.Check.{fewMembers}
 use Rattle.derivation_rules.specs.RowLaws.{row-none, by-rule}
-use Rattle.rule_bytes.specs.Bytes.{byteOf, derivationByte, derivationPremises}
+use Rattle.rule_bytes.specs.Bytes.{byteOf, derivationByte, premisesOf}
 use Rattle.rule_bytes.specs.DerivationRows.{premises-none}
 use Rattle.derivation_tables.specs.Tables.{column}
 
 -- the premises of node n have room beside h members; those of BR2 are its parts
 unfoldable pub nodeRoom : Reader → ℕ → ℕ → Bool
 nodeRoom rd h n =
-    ifEq (rd n 0) 65 (leb (length (bareParts rd n)) 2048) (ifEq (derivationPremises (rd n 0)) 0 true (leb (h + column (rd n 0) 2) 2048))
+    ifEq (rd n 0) 65 (leb (length (bareParts rd n)) 2048) (ifEq (premisesOf (derivationByte (rd n 0))) 0 true (leb (h + column (rd n 0) 2) 2048))
 
 once : (b : Bool) → elim b as (λ x. Bool) [ true ↦ true | false ↦ false ] ≡ b
 once true = refl
@@ -64,10 +64,10 @@ module _ (ps : List Tree) (st : State) where
   two t = twice (leb (length (st .members ++ (t ∷ []))) 2048) ∙ ap (λ (n : ℕ). leb n 2048) (added t)
 
   -- the rows say the same
-  room-rule : (k : ℕ) → every fewMembers (row k ps st .premises) ≡ ifEq k 65 (leb (length ps) 2048) (ifEq (derivationPremises k) 0 true (leb (h + column k 2) 2048))
-  unfolding row ifEq ifLt column derivationPremises derivationByte byteOf every fewMembers
+  room-rule : (k : ℕ) → every fewMembers (row k ps st .premises) ≡ ifEq k 65 (leb (length ps) 2048) (ifEq (premisesOf (derivationByte k)) 0 true (leb (h + column k 2) 2048))
+  unfolding row ifEq ifLt column premisesOf derivationByte byteOf every fewMembers
   room-rule =
-      by-rule (λ k. every fewMembers (row k ps st .premises) ≡ ifEq k 65 (leb (length ps) 2048) (ifEq (derivationPremises k) 0 true (leb (h + column k 2) 2048)))
+      by-rule (λ k. every fewMembers (row k ps st .premises) ≡ ifEq k 65 (leb (length ps) 2048) (ifEq (premisesOf (derivationByte k)) 0 true (leb (h + column k 2) 2048)))
       refl
       (once (leb (length ps) 2048))
       refl
@@ -86,7 +86,7 @@ module _ (ps : List Tree) (st : State) where
       (twice (leb h 2048) ∙ none-more)
       refl
       (λ k other. rw (row-none k ps st other)
-      (eq-no k 65 _ _ true (λ z. other 65 (omega arith) (omega arith) z) (eq-yes (derivationPremises k) 0 _ _ true (sym (premises-none k other)) refl)))
+      (eq-no k 65 _ _ true (λ z. other 65 (omega arith) (omega arith) z) (eq-yes (premisesOf (derivationByte k)) 0 _ _ true (sym (premises-none k other)) refl)))
 
 pub node-room : (rd : Reader) (n : ℕ) (st : State) → nodeRoom rd (length (st .members)) n ≡ every fewMembers (row (rd n 0) (bareParts rd n) st .premises)
 unfolding nodeRoom
@@ -102,11 +102,11 @@ module _ (rd : Reader) (h n k : ℕ) (ek : k ≡ rd n 0) where
   unfolding nodeRoom
   room-parts q c r ec e = rw (← ek) (eq-yes k 65 _ _ r q (e ∙ ap (λ (i : ℕ). leb i 2048) (ap (λ (l : ℕ). length (linked rd l)) ec ∙ sym parts-length)))
 
-  module _ (other : k ≡ 65 → ⊥) (count : ℕ) (ec : count ≡ derivationPremises k) where
+  module _ (other : k ≡ 65 → ⊥) (byte count : ℕ) (eb : byte ≡ derivationByte k) (ec : count ≡ premisesOf byte) where
     pub room-none : count ≡ 0 → true ≡ nodeRoom rd h n
     unfolding nodeRoom
-    room-none q = rw (← ek, ← ec) (eq-no k 65 _ _ true other (eq-yes count 0 _ _ true q refl))
+    room-none q = rw (← ek, ← eb, ← ec) (eq-no k 65 _ _ true other (eq-yes count 0 _ _ true q refl))
 
     pub room-some : (count ≡ 0 → ⊥) → (more : ℕ) → more ≡ column k 2 → leb (h + more) 2048 ≡ nodeRoom rd h n
     unfolding nodeRoom
-    room-some q more em = rw (← ek, ← ec, ← em) (eq-no k 65 _ _ (leb (h + more) 2048) other (eq-no count 0 _ _ (leb (h + more) 2048) q refl))
+    room-some q more em = rw (← ek, ← eb, ← ec, ← em) (eq-no k 65 _ _ (leb (h + more) 2048) other (eq-no count 0 _ _ (leb (h + more) 2048) q refl))

@@ -13,6 +13,7 @@ ghost use mathlib.Core.Path.{_≡_};
 ghost use Prim.Native.Nat.{_≤_};
 ghost use lib.ListN.{length};
 ghost use Rattle.reader.specs.Words.{word};
+ghost use Rattle.rule_bytes.specs.Bytes.{derivationByte};
 ghost use Rattle.derivation_trees.specs.Keys.{decoded};
 ghost use Rattle.derivation_replacement.specs.Replaced.{Tables};
 ghost use Rattle.derivation_rules.specs.Check.{nodeFault};
@@ -40,12 +41,12 @@ fn goal_fits(
     formed::goal_formed(obligation, second, m, keys, goal, k)
 }
 
-// Has node n as many premises as its rule, each a rule node?
-fn premises_fit(obligation: &[u8], second: &[u8], m: usize, n: usize) -> bool
+// Has node n as many premises as its rule, each a rule node? `byte` is the rule's.
+fn premises_fit(obligation: &[u8], second: &[u8], m: usize, n: usize, byte: u8) -> bool
+    requires { ⌜ byte ≡ derivationByte (word (now obligation) (now second) m n 0) ⌝ }
     ensures { λ r. ⌜ r ≡ premisesAt (word (now (obligation .entry)) (now (second .entry)) m) n ⌝ }
 {
-    let k = words::word_at(obligation, second, m, n, 0);
-    let count = rule_bytes::derivation_premises(k);
+    let count = rule_bytes::premises_of(byte);
     premises::premises_fit(obligation, second, m, n, count)
 }
 
@@ -96,7 +97,7 @@ fn room_beside(obligation: &[u8], second: &[u8], m: usize, h: usize, n: usize) -
         let c = trees::lower_at(obligation, second, m, n, 1);
         return chains::at_most(obligation, second, m, c, 2048);
     }
-    let count = rule_bytes::derivation_premises(k);
+    let count = rule_bytes::premises_of(rule_bytes::derivation_byte(k));
     if count == 0 {
         return true;
     }
@@ -134,13 +135,15 @@ fn form_fault(
     requires { ⌜ At (word (now obligation) (now second) m) (now keys) (now frames) d n ⌝ }
     ensures { λ r. ⌜ r ≡ formFault (word (now (obligation .entry)) (now (second .entry)) m) (stateOf (word (now (obligation .entry)) (now (second .entry)) m) (now (frames .entry)) d) n ⌝ }
 {
-    if !formed::parts_formed(obligation, second, m, keys, n) {
+    let k = words::word_at(obligation, second, m, n, 0);
+    let byte = rule_bytes::derivation_byte(k);
+    if !formed::parts_formed(obligation, second, m, keys, n, byte) {
         return 13;
     }
     if !goal_fits(obligation, second, m, keys, frames, d, n) {
         return 13;
     }
-    if !premises_fit(obligation, second, m, n) {
+    if !premises_fit(obligation, second, m, n, byte) {
         return 13;
     }
     if !members_fit(obligation, second, m, keys, frames, d, n) {

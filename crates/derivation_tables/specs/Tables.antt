@@ -16,7 +16,7 @@ use Rattle.derivation_rules.specs.Rules.{State, row, premise}
 use Rattle.reader.specs.Members.{part}
 use Rattle.derivation_trees.specs.Shapes.{shapeOf}
 use Rattle.derivation_rules.specs.RowLaws.{NoRule, row-none, by-rule}
-use Rattle.rule_bytes.specs.Bytes.{byteOf, derivationByte, derivationParts}
+use Rattle.rule_bytes.specs.Bytes.{byteOf, derivationByte, partsOf}
 use Rattle.rule_bytes.specs.DerivationRows.{parts-none}
 
 -- A form names a tree of a node: 4 times the source and a step. Source 1 is the goal, from 2 on the parts; step 0 itself, 1 its first part, 2 its second,
@@ -89,10 +89,10 @@ premisesFrom ps st g e rest = ifEq g 0 [] (premise st (grown (st .members) ps (s
 -- the rows say what the table says
 module _ (ps : List Tree) (st : State) where
   -- in the number that the byte has
-  pub shapes-are : (k : ℕ) → (derivationParts k ≡ 15 → ⊥) → row k ps st .shapes ≡ shapesOf (derivationParts k) (column k 0)
-  unfolding row ifEq ifLt derivationParts derivationByte byteOf column shapesOf shapeOf down iter
+  pub shapes-are : (k : ℕ) → (partsOf (derivationByte k) ≡ 15 → ⊥) → row k ps st .shapes ≡ shapesOf (partsOf (derivationByte k)) (column k 0)
+  unfolding row ifEq ifLt partsOf derivationByte byteOf column shapesOf shapeOf down iter
   shapes-are =
-      by-rule (λ k. (derivationParts k ≡ 15 → ⊥) → row k ps st .shapes ≡ shapesOf (derivationParts k) (column k 0))
+      by-rule (λ k. (partsOf (derivationByte k) ≡ 15 → ⊥) → row k ps st .shapes ≡ shapesOf (partsOf (derivationByte k)) (column k 0))
       (λ h. refl) (λ h. absurd (h refl)) (λ h. refl) (λ h. refl) (λ h. refl) (λ h. refl) (λ h. refl) (λ h. refl) (λ h. refl) (λ h. refl) (λ h. refl) (λ h. refl) (λ h. refl) (λ h. refl) (λ h. refl) (λ h. refl) (λ h. refl)
       (λ k other h. rw (row-none k ps st other, ← parts-none k other) refl)
 

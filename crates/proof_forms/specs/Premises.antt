@@ -15,7 +15,7 @@ use Rattle.reader.specs.Chains.{items, premises, parts}
 use Rattle.reader.specs.TreeLaws.{items-zero, items-step}
 use Rattle.proof_rules.specs.Check.{rowOf}
 use Rattle.reader.specs.Members.{premisesFit}
-use Rattle.rule_bytes.specs.Bytes.{proofPremises}
+use Rattle.rule_bytes.specs.Bytes.{proofByte, premisesOf}
 use Rattle.rule_bytes.specs.ProofRows.{proof-premises}
 
 -- the items of chain c are n rule nodes
@@ -57,7 +57,7 @@ module _ (rd : Reader) (c n : ℕ) where
     nodes-more r e = rw (items-step rd c (omega arith), one-more _ _ _ n wanted, ← ei, ← er, ← ek) e
 
 -- the premises of a node
-pub premises-of : (rd : Reader) (n k c count : ℕ) (r : Bool) → k ≡ rd n 0 → c ≡ lower rd n 2 → count ≡ proofPremises k → r ≡ areNodes rd c count →
+pub premises-of : (rd : Reader) (n byte c count : ℕ) (r : Bool) → byte ≡ proofByte (rd n 0) → c ≡ lower rd n 2 → count ≡ premisesOf byte → r ≡ areNodes rd c count →
     r ≡ premisesFit 1 rd n (length (rowOf rd n .adds))
 unfolding premisesFit rowOf premises areNodes
-premises-of rd n k c count r ek ec en e = rw (proof-premises (map (tree rd) (parts rd n)) (rd n 0), ← ek, ← ec, ← en) e
+premises-of rd n byte c count r eb ec en e = rw (proof-premises (map (tree rd) (parts rd n)) (rd n 0), ← eb, ← ec, ← en) e

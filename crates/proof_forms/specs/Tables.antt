@@ -1,6 +1,6 @@
 -- What the rules 32 to 46 say of the shapes of parts, as a table, and that the rows say the same.
 use Prim.Native.Nat.{ℕ, _-_, _<_, _≤_}
-use mathlib.Core.Path.{_≡_, refl, sym, _∙_}
+use mathlib.Core.Path.{_≡_, refl, sym, ap, _∙_}
 use mathlib.Core.List.{List, [], _∷_, map}
 use mathlib.Core.Bool.{Bool, true, false}
 use lib.Dec.{ltb}
@@ -17,7 +17,7 @@ use Rattle.proof_rules.specs.Check.{rowOf}
 use Rattle.reader.specs.Down.{iter, down}
 use Rattle.proof_rules.specs.Rules.{row}
 use Rattle.proof_rules.specs.RowLaws.{NoRule, row-none, by-rule}
-use Rattle.rule_bytes.specs.Bytes.{byteOf, proofByte, proofParts}
+use Rattle.rule_bytes.specs.Bytes.{byteOf, proofByte, partsOf}
 use Rattle.rule_bytes.specs.ProofRows.{parts-none, proof-varies}
 use Rattle.proof_forms.specs.Shapes.{shapeStep, shapeOf, shapesOf, instanceShapes}
 
@@ -47,10 +47,10 @@ entry-none table k i h = go (ltb k 32) refl
     go false e = let z : 32 ≤ k = ltb-false k 32 e in simp (lt-ltb 46 k (past-by z (ltb 46 k) refl))
 
 -- the rows say what the table says, in the number that the byte has
-pub shapes-are : (ps : List Tree) (k : ℕ) → (proofParts k ≡ 15 → ⊥) → row k ps .shapes ≡ shapesOf (proofParts k) (shapeCode k)
-unfolding row ifEq proofParts proofByte byteOf shapeCode ruleEntry ifLt shapesOf shapeOf shapeStep down iter
+pub shapes-are : (ps : List Tree) (k : ℕ) → (partsOf (proofByte k) ≡ 15 → ⊥) → row k ps .shapes ≡ shapesOf (partsOf (proofByte k)) (shapeCode k)
+unfolding row ifEq partsOf proofByte byteOf shapeCode ruleEntry ifLt shapesOf shapeOf shapeStep down iter
 shapes-are ps =
-    by-rule (λ k. (proofParts k ≡ 15 → ⊥) → row k ps .shapes ≡ shapesOf (proofParts k) (shapeCode k))
+    by-rule (λ k. (partsOf (proofByte k) ≡ 15 → ⊥) → row k ps .shapes ≡ shapesOf (partsOf (proofByte k)) (shapeCode k))
     (λ h. refl) (λ h. refl) (λ h. refl) (λ h. refl) (λ h. refl)
     (λ h. refl) (λ h. refl) (λ h. refl) (λ h. refl) (λ h. refl)
     (λ h. refl) (λ h. refl) (λ h. refl) (λ h. absurd (h refl)) (λ h. refl)
@@ -61,13 +61,16 @@ pub entry-rest : (table : List ℕ) (k i : ℕ) → Rest 32 k 15 → 0 ≡ ruleE
 entry-rest table k i rest = sym (entry-none table k i (λ j low high same. omega (arith, rest-past 32 k 15 (omega arith) rest)))
 
 -- the shapes of a node's parts
-module _ (rd : Reader) (n k c count : ℕ) (ek : k ≡ rd n 0) (ec : c ≡ lower rd n 1) (en : count ≡ proofParts k) where
+module _ (rd : Reader) (n k c byte count : ℕ) (ek : k ≡ rd n 0) (ec : c ≡ lower rd n 1) (eb : byte ≡ proofByte (rd n 0)) (en : count ≡ partsOf byte) where
+  count-parts : count ≡ partsOf (proofByte k)
+  count-parts = en ∙ ap partsOf (eb ∙ ap proofByte (sym ek))
+
   pub shapes-varying : count ≡ 15 → (r : Bool) → r ≡ instanceShapes (itemTrees rd c) → r ≡ haveShapes (rowOf rd n .shapes) (map (tree rd) (parts rd n))
   unfolding rowOf parts instanceShapes itemTrees row ifEq
-  shapes-varying h r e = rw (← ek, proof-varies k (sym en ∙ h), ← ec) e
+  shapes-varying h r e = rw (← ek, proof-varies k (sym count-parts ∙ h), ← ec) e
 
   pub shapes-counted : (count ≡ 15 → ⊥) → (code : ℕ) (r : Bool) → code ≡ shapeCode k → r ≡ haveShapes (shapesOf count code) (itemTrees rd c) →
       r ≡ haveShapes (rowOf rd n .shapes) (map (tree rd) (parts rd n))
   unfolding rowOf parts itemTrees
   shapes-counted h code r es e =
-      rw (← ek, shapes-are (map (tree rd) (items rd (lower rd n 1))) k (λ z. h (en ∙ z)), ← es, ← ec, ← en) e
+      rw (← ek, shapes-are (map (tree rd) (items rd (lower rd n 1))) k (λ z. h (count-parts ∙ z)), ← es, ← ec, ← count-parts) e

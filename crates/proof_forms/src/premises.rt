@@ -8,6 +8,7 @@ ghost use Rattle.reader.specs.Words.{word};
 ghost use Rattle.proof_rules.specs.Rules.{Row};
 ghost use Rattle.proof_rules.specs.Check.{rowOf};
 ghost use Rattle.reader.specs.Members.{premisesFit};
+ghost use Rattle.rule_bytes.specs.Bytes.{proofByte};
 ghost use Rattle.proof_forms.specs.Premises.{areNodes};
 
 // Are the items of chain c n rule nodes?
@@ -28,11 +29,11 @@ fn are_nodes(obligation: &[u8], second: &[u8], m: usize, c: usize, n: usize) -> 
     are_nodes(obligation, second, m, rest, n - 1)
 }
 
-// Has node n as many premises as its rule, each a rule node?
-pub fn premises_fit(obligation: &[u8], second: &[u8], m: usize, n: usize) -> bool
+// Has node n as many premises as its rule, each a rule node? `byte` is the rule's.
+pub fn premises_fit(obligation: &[u8], second: &[u8], m: usize, n: usize, byte: u8) -> bool
+    requires { ⌜ byte ≡ proofByte (word (now obligation) (now second) m n 0) ⌝ }
     ensures { λ r. ⌜ r ≡ premisesFit 1 (word (now (obligation .entry)) (now (second .entry)) m) n (length (rowOf (word (now (obligation .entry)) (now (second .entry)) m) n .adds)) ⌝ }
 {
-    let k = words::word_at(obligation, second, m, n, 0);
     let c = trees::lower_at(obligation, second, m, n, 2);
-    are_nodes(obligation, second, m, c, rule_bytes::proof_premises(k))
+    are_nodes(obligation, second, m, c, rule_bytes::premises_of(byte))
 }

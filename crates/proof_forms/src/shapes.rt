@@ -12,6 +12,7 @@ ghost use Rattle.reader.specs.Chains.{itemTrees, parts};
 ghost use Rattle.reader.specs.Shapes.{type, hasShape, haveShapes};
 ghost use Rattle.proof_rules.specs.Rules.{Row};
 ghost use Rattle.proof_rules.specs.Check.{rowOf};
+ghost use Rattle.rule_bytes.specs.Bytes.{proofByte};
 ghost use Rattle.proof_forms.specs.Shapes.{shapeOf, shapesOf, instanceShapes};
 
 // Has record i the shape with number s?
@@ -91,13 +92,14 @@ fn instance_shapes(obligation: &[u8], second: &[u8], m: usize, c: usize) -> bool
     are_types(obligation, second, m, types, count)
 }
 
-// Have the parts of node n the number, classes and forms of its rule?
-pub fn shapes_fit(obligation: &[u8], second: &[u8], m: usize, n: usize) -> bool
+// Have the parts of node n the number, classes and forms of its rule? `byte` is the rule's.
+pub fn shapes_fit(obligation: &[u8], second: &[u8], m: usize, n: usize, byte: u8) -> bool
+    requires { ⌜ byte ≡ proofByte (word (now obligation) (now second) m n 0) ⌝ }
     ensures { λ r. ⌜ r ≡ haveShapes (rowOf (word (now (obligation .entry)) (now (second .entry)) m) n .shapes) (map (tree (word (now (obligation .entry)) (now (second .entry)) m)) (parts (word (now (obligation .entry)) (now (second .entry)) m) n)) ⌝ }
 {
     let k = words::word_at(obligation, second, m, n, 0);
     let c = trees::lower_at(obligation, second, m, n, 1);
-    let count = rule_bytes::proof_parts(k);
+    let count = rule_bytes::parts_of(byte);
     // The number varies: it is that of 45's first part.
     if count == 15 {
         return instance_shapes(obligation, second, m, c);

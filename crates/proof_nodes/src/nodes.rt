@@ -93,10 +93,12 @@ fn form_fault(
     requires { ⌜ At (word (now obligation) (now second) m) (now numbers) (now memory) (now scratch) h n ⌝ }
     ensures { λ r. ⌜ r ≡ formFault (word (now (obligation .entry)) (now (second .entry)) m) (sequent (word (now (obligation .entry)) (now (second .entry)) m) (now (memory .entry)) h) n ⌝ }
 {
-    if !shapes::shapes_fit(obligation, second, m, n) {
+    let k = words::word_at(obligation, second, m, n, 0);
+    let byte = rule_bytes::proof_byte(k);
+    if !shapes::shapes_fit(obligation, second, m, n, byte) {
         return 13;
     }
-    if !premises::premises_fit(obligation, second, m, n) {
+    if !premises::premises_fit(obligation, second, m, n, byte) {
         return 13;
     }
     if !needs::needs_hold(obligation, second, m, numbers, memory, h, n) {

@@ -11,7 +11,7 @@ use Rattle.reader.specs.Tests.{ifLt}
 use Rattle.reader.specs.TestLaws.{Rest, rest-past}
 use Rattle.reader.specs.WordLaws.{past-end}
 use Rattle.reader.specs.Trees.{Tree}
-use Rattle.rule_bytes.specs.Bytes.{byteOf}
+use Rattle.rule_bytes.specs.Bytes.{byteOf, partsOf, premisesOf}
 
 -- a number that some lists of parts make another
 pub record Varies (number : List Tree → ℕ) : Type 0 where
@@ -38,7 +38,8 @@ says-one a b number p q = go (eqb a 15) refl (eqb b 15) refl
     go false e false f = sym (p .fixed (eqb-false a 15 e) []) ∙ q .fixed (eqb-false b 15 f) []
 
 -- two bytes with the same halves are the same
-pub halves-one : (a b : ℕ) → a / 16 ≡ b / 16 → a % 16 ≡ b % 16 → a ≡ b
+pub halves-one : (a b : ℕ) → partsOf a ≡ partsOf b → premisesOf a ≡ premisesOf b → a ≡ b
+unfolding partsOf premisesOf
 halves-one a b high low = omega arith
 
 -- a number below 15 that is the same for all parts

@@ -55,15 +55,9 @@ unfoldable pub derivationByte : ℕ → ℕ
 derivationByte k = byteOf 64 derivationBytes k
 
 -- the high half: the number of parts, 15 where it varies
-unfoldable pub proofParts : ℕ → ℕ
-proofParts k = proofByte k / 16
-
-unfoldable pub derivationParts : ℕ → ℕ
-derivationParts k = derivationByte k / 16
+unfoldable pub partsOf : ℕ → ℕ
+partsOf byte = byte / 16
 
 -- the low half: the number of premises
-unfoldable pub proofPremises : ℕ → ℕ
-proofPremises k = proofByte k % 16
-
-unfoldable pub derivationPremises : ℕ → ℕ
-derivationPremises k = derivationByte k % 16
+unfoldable pub premisesOf : ℕ → ℕ
+premisesOf byte = byte % 16

@@ -8,25 +8,29 @@ use Rattle.reader.specs.Tests.{ifEq, ifLt}
 use Rattle.reader.specs.Trees.{Tree, leaf, node, atomOf}
 use Rattle.proof_rules.specs.Rules.{row}
 use Rattle.proof_rules.specs.RowLaws.{NoRule, row-none, by-rule}
-use Rattle.rule_bytes.specs.Bytes.{proofBytes, byteOf, proofByte, proofParts, proofPremises}
+use Rattle.rule_bytes.specs.Bytes.{proofBytes, byteOf, proofByte, partsOf, premisesOf}
 use Rattle.rule_bytes.specs.ByteLaws.{Says, says-one, halves-one, always, no-byte}
+
+-- the byte of a kind that was read
+pub proof-byte-at : (word k byte : ℕ) → k ≡ word → byte ≡ proofByte k → byte ≡ proofByte word
+proof-byte-at word k byte ek eb = rw (← ek) eb
 
 -- no rule has no byte
 byte-none : (k : ℕ) → NoRule k → 0 ≡ proofByte k
 unfolding proofByte
 byte-none k other = no-byte 32 proofBytes k (λ low. let past : k ≤ 46 → ⊥ = λ high. other k low high refl in omega arith)
 
-pub parts-none : (k : ℕ) → NoRule k → 0 ≡ proofParts k
-unfolding proofParts
-parts-none k other = ap (λ (b : ℕ). b / 16) (byte-none k other)
+pub parts-none : (k : ℕ) → NoRule k → 0 ≡ partsOf (proofByte k)
+unfolding partsOf
+parts-none k other = ap partsOf (byte-none k other)
 
 -- the low half is the number of premises
-pub proof-premises : (ps : List Tree) (k : ℕ) → length (row k ps .adds) ≡ proofPremises k
-unfolding row ifEq ifLt proofPremises proofByte byteOf
+pub proof-premises : (ps : List Tree) (k : ℕ) → length (row k ps .adds) ≡ premisesOf (proofByte k)
+unfolding row ifEq ifLt premisesOf proofByte byteOf
 proof-premises ps =
-    by-rule (λ k. length (row k ps .adds) ≡ proofPremises k)
+    by-rule (λ k. length (row k ps .adds) ≡ premisesOf (proofByte k))
     refl refl refl refl refl refl refl refl refl refl refl refl refl refl refl
-    (λ k other. rw (row-none k ps other) (ap (λ (b : ℕ). b % 16) (byte-none k other)))
+    (λ k other. rw (row-none k ps other) (ap premisesOf (byte-none k other)))
 
 -- 45: a kind 22 of count 1 wants a type more than one of count 0
 instance-varies : Says 15 (λ ps. length (row 45 ps .shapes))
@@ -37,10 +41,10 @@ instance-varies = record {
 }
 
 -- the high half says the number of parts
-pub proof-parts : (k : ℕ) → Says (proofParts k) (λ ps. length (row k ps .shapes))
-unfolding row ifEq ifLt proofParts proofByte byteOf
+pub proof-parts : (k : ℕ) → Says (partsOf (proofByte k)) (λ ps. length (row k ps .shapes))
+unfolding row ifEq ifLt partsOf proofByte byteOf
 proof-parts =
-    by-rule (λ k. Says (proofParts k) (λ ps. length (row k ps .shapes)))
+    by-rule (λ k. Says (partsOf (proofByte k)) (λ ps. length (row k ps .shapes)))
     (always _ (omega arith))
     (always _ (omega arith))
     (always _ (omega arith))
@@ -57,20 +61,19 @@ proof-parts =
     instance-varies
     (always _ (omega arith))
     (λ k other.
-    let none : 0 ≡ proofParts k = parts-none k other in
+    let none : 0 ≡ partsOf (proofByte k) = parts-none k other in
     record { fixed = λ h ps. rw (row-none k ps other) none; varies = λ e. absurd (omega arith) })
 
 -- only the parts of 45 vary in number
-pub proof-varies : (k : ℕ) → proofParts k ≡ 15 → k ≡ 45
-unfolding proofParts proofByte byteOf ifLt
+pub proof-varies : (k : ℕ) → partsOf (proofByte k) ≡ 15 → k ≡ 45
+unfolding partsOf proofByte byteOf ifLt
 proof-varies =
-    by-rule (λ k. proofParts k ≡ 15 → k ≡ 45)
+    by-rule (λ k. partsOf (proofByte k) ≡ 15 → k ≡ 45)
     (λ e. absurd (omega arith)) (λ e. absurd (omega arith)) (λ e. absurd (omega arith)) (λ e. absurd (omega arith)) (λ e. absurd (omega arith))
     (λ e. absurd (omega arith)) (λ e. absurd (omega arith)) (λ e. absurd (omega arith)) (λ e. absurd (omega arith)) (λ e. absurd (omega arith))
     (λ e. absurd (omega arith)) (λ e. absurd (omega arith)) (λ e. absurd (omega arith)) (λ e. refl) (λ e. absurd (omega arith))
-    (λ k other e. let none : 0 ≡ proofParts k = parts-none k other in absurd (omega arith))
+    (λ k other e. let none : 0 ≡ partsOf (proofByte k) = parts-none k other in absurd (omega arith))
 
 -- "a wrong half in any of the 32 bytes breaks a contract": no other byte says what the row says
-pub proof-byte-one : (k b : ℕ) → Says (b / 16) (λ ps. length (row k ps .shapes)) → ((ps : List Tree) → length (row k ps .adds) ≡ b % 16) → b ≡ proofByte k
-unfolding proofParts proofPremises
-proof-byte-one k b high low = halves-one b (proofByte k) (says-one (b / 16) (proofParts k) _ high (proof-parts k)) (sym (low []) ∙ proof-premises [] k)
+pub proof-byte-one : (k b : ℕ) → Says (partsOf b) (λ ps. length (row k ps .shapes)) → ((ps : List Tree) → length (row k ps .adds) ≡ premisesOf b) → b ≡ proofByte k
+proof-byte-one k b high low = halves-one b (proofByte k) (says-one (partsOf b) (partsOf (proofByte k)) _ high (proof-parts k)) (sym (low []) ∙ proof-premises [] k)

@@ -1,10 +1,10 @@
-// One byte for each rule kind: its high half is the number of parts, its low half the number of premises, 15 a number that varies. Each table is a `match`, which the
-// compiler keeps as one byte a kind in read-only memory; it would write a `const` array to the stack at each use.
+// One byte for each rule kind: its high half is the number of parts, its low half the number of premises, 15 a number that varies. Each table is a `match`, as the compiler would
+// write a `const` array to the stack at each use. A walk reads a node's byte once and then both halves of it: so the compiler keeps the bytes as they are, and not a table for each half.
 ghost use mathlib.Core.Path.{_≡_};
-ghost use Rattle.rule_bytes.specs.Bytes.{proofByte, derivationByte, proofParts, proofPremises, derivationParts, derivationPremises};
+ghost use Rattle.rule_bytes.specs.Bytes.{proofByte, derivationByte, partsOf, premisesOf};
 
 // The byte of proof rule k, 0 for a kind that is none.
-fn proof_byte(k: usize) -> u8
+pub fn proof_byte(k: usize) -> u8
     ensures { λ r. ⌜ r ≡ proofByte k ⌝ }
 {
     match k {
@@ -28,7 +28,7 @@ fn proof_byte(k: usize) -> u8
 }
 
 // The byte of derivation rule k, 0 for a kind that is none.
-fn derivation_byte(k: usize) -> u8
+pub fn derivation_byte(k: usize) -> u8
     ensures { λ r. ⌜ r ≡ derivationByte k ⌝ }
 {
     match k {
@@ -53,30 +53,16 @@ fn derivation_byte(k: usize) -> u8
     }
 }
 
-// The number of parts of proof rule k, 15 where it varies.
-pub fn proof_parts(k: usize) -> usize
-    ensures { λ r. ⌜ r ≡ proofParts k ⌝ }
+// The number of parts that a rule's byte has, 15 where it varies.
+pub fn parts_of(byte: u8) -> usize
+    ensures { λ r. ⌜ r ≡ partsOf byte ⌝ }
 {
-    (proof_byte(k) / 16) as usize
+    (byte / 16) as usize
 }
 
-// The number of premises of proof rule k.
-pub fn proof_premises(k: usize) -> usize
-    ensures { λ r. ⌜ r ≡ proofPremises k ⌝ }
+// The number of premises that a rule's byte has.
+pub fn premises_of(byte: u8) -> usize
+    ensures { λ r. ⌜ r ≡ premisesOf byte ⌝ }
 {
-    (proof_byte(k) % 16) as usize
-}
-
-// The number of parts of derivation rule k, 15 where it varies.
-pub fn derivation_parts(k: usize) -> usize
-    ensures { λ r. ⌜ r ≡ derivationParts k ⌝ }
-{
-    (derivation_byte(k) / 16) as usize
-}
-
-// The number of premises of derivation rule k.
-pub fn derivation_premises(k: usize) -> usize
-    ensures { λ r. ⌜ r ≡ derivationPremises k ⌝ }
-{
-    (derivation_byte(k) % 16) as usize
+    (byte % 16) as usize
 }

@@ -10,15 +10,15 @@ parts-formed-spec = tie.close (tie.spec
     (λ c κs. search needs)
     -- lower-at-requires: word-at; 4 args
     (λ c κs. search needs)
-    -- derivation-parts-requires: lower-at; 1 word-at; 5 args
+    -- parts-of-requires: lower-at; 1 word-at; 5 args
     (λ c κs. search needs)
-    -- are-formulas-requires: if1; 1 derivation-parts; 2 lower-at; 3 word-at; 7 args
+    -- are-formulas-requires: if1; 1 parts-of; 2 lower-at; 3 word-at; 7 args
     (λ c κs. (search needs, search chain-in))
-    -- returns: are-formulas; 1 if1; 2 derivation-parts; 3 lower-at; 4 word-at; 8 args
+    -- returns: are-formulas; 1 if1; 2 parts-of; 3 lower-at; 4 word-at; 8 args
     (λ c. search formed-varying)
-    -- column-requires: if1; 1 derivation-parts; 2 lower-at; 3 word-at; 7 args
+    -- column-requires: if1; 1 parts-of; 2 lower-at; 3 word-at; 7 args
     (λ c κs. search needs)
-    -- have-shapes-requires: column; 1 if1; 2 derivation-parts; 3 lower-at; 4 word-at; 8 args
+    -- have-shapes-requires: column; 1 if1; 2 parts-of; 3 lower-at; 4 word-at; 8 args
     (λ c κs. (search needs, search chain-in))
-    -- returns-2: have-shapes; 1 column; 2 if1; 3 derivation-parts; 4 lower-at; 5 word-at; 9 args
+    -- returns-2: have-shapes; 1 column; 2 if1; 3 parts-of; 4 lower-at; 5 word-at; 9 args
     (λ c. search formed-counted))

@@ -6,11 +6,9 @@ use Rattle.derivation_nodes.proofs.nodes.premises_fit.Tie as tie
 
 pub premises-fit-spec : {M : Type 1} → statement M
 premises-fit-spec = tie.close (tie.spec
-    -- word-at-requires: 2 args
+    -- premises-of-requires: 2 args
     (λ c κs. search needs)
-    -- derivation-premises-requires: word-at; 3 args
+    -- premises-fit-requires: premises-of; 3 args
     (λ c κs. search needs)
-    -- premises-fit-requires: derivation-premises; 1 word-at; 4 args
-    (λ c κs. search needs)
-    -- returns: premises-fit; 1 derivation-premises; 2 word-at; 5 args
+    -- returns: premises-fit; 1 premises-of; 4 args
     (λ c. search premises-at))

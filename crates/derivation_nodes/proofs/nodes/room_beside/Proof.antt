@@ -15,13 +15,15 @@ room-beside-spec = tie.close (tie.spec
     (λ c κs. search needs)
     -- returns: at-most; 1 lower-at; 2 if1; 3 word-at; 6 args
     (λ c. search room-parts)
-    -- derivation-premises-requires: if1; 1 word-at; 4 args
+    -- derivation-byte-requires: if1; 1 word-at; 4 args
     (λ c κs. search needs)
-    -- returns-2: if2; 1 derivation-premises; 2 if1; 3 word-at; 6 args
+    -- premises-of-requires: derivation-byte; 1 if1; 2 word-at; 5 args
+    (λ c κs. search needs)
+    -- returns-2: if2; 1 premises-of; 2 derivation-byte; 3 if1; 4 word-at; 7 args
     (λ c. search room-none)
-    -- column-requires: if2; 1 derivation-premises; 2 if1; 3 word-at; 6 args
+    -- column-requires: if2; 1 premises-of; 2 derivation-byte; 3 if1; 4 word-at; 7 args
     (λ c κs. search needs)
-    -- add-result: column; 1 if2; 2 derivation-premises; 3 if1; 4 word-at; 7 args
-    (λ c. omega (arith, c .before .before .before .before .before .before .before .pre, c .column .ensures, added-few (c .before .before .before .before .word-at .result)))
-    -- returns-3: column; 1 if2; 2 derivation-premises; 3 if1; 4 word-at; 7 args
+    -- add-result: column; 1 if2; 2 premises-of; 3 derivation-byte; 4 if1; 5 word-at; 8 args
+    (λ c. omega (arith, c .before .before .before .before .before .before .before .before .pre, c .column .ensures, added-few (c .before .before .before .before .before .word-at .result)))
+    -- returns-3: column; 1 if2; 2 premises-of; 3 derivation-byte; 4 if1; 5 word-at; 8 args
     (λ c. search room-some))

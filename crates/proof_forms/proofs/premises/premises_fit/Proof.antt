@@ -5,13 +5,11 @@ use Rattle.proof_forms.proofs.premises.premises_fit.Tie as tie
 
 pub premises-fit-spec : {M : Type 1} → statement M
 premises-fit-spec = tie.close (tie.spec
-    -- word-at-requires: 2 args
+    -- lower-at-requires: 2 args
     (λ c κs. search needs)
-    -- lower-at-requires: word-at; 3 args
+    -- premises-of-requires: lower-at; 3 args
     (λ c κs. search needs)
-    -- proof-premises-requires: lower-at; 1 word-at; 4 args
+    -- are-nodes-requires: premises-of; 1 lower-at; 4 args
     (λ c κs. search needs)
-    -- are-nodes-requires: proof-premises; 1 lower-at; 2 word-at; 5 args
-    (λ c κs. search needs)
-    -- returns: are-nodes; 1 proof-premises; 2 lower-at; 3 word-at; 6 args
+    -- returns: are-nodes; 1 premises-of; 2 lower-at; 5 args
     (λ c. search premises-of))
