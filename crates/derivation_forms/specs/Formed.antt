@@ -156,14 +156,14 @@ unfolding isFormula
 key-formula rd size x item r k e = rw (← k .stands .means) e
 
 -- The ways out of `parts_formed` and `goal_formed`.
-module _ (rd : Reader) (n k c byte count : ℕ) (ek : k ≡ rd n 0) (ec : c ≡ lower rd n 1) (eb : byte ≡ derivationByte (rd n 0)) (en : count ≡ partsOf byte) where
+module _ (rd : Reader) (n k c byte count : ℕ) (ek : k ≡ rd n 0) (ec : c ≡ lower rd n 1) (eb : byte ≡ derivationByte k) (en : count ≡ partsOf byte) where
   pub formed-varying : count ≡ 15 → (r : Bool) → r ≡ every isFormula (chainTrees rd c) → r ≡ partsFormed rd n
   unfolding partsFormed bareParts parts chainTrees
-  formed-varying h r e = rw (← eb, ← ec, ← en) (eq-yes count 15 _ _ r h e)
+  formed-varying h r e = rw (← ek, ← eb, ← ec, ← en) (eq-yes count 15 _ _ r h e)
 
   pub formed-counted : (count ≡ 15 → ⊥) → (code : ℕ) (r : Bool) → code ≡ column k 0 → r ≡ haveShapes (shapesOf count code) (chainTrees rd c) → r ≡ partsFormed rd n
   unfolding partsFormed bareParts parts chainTrees
-  formed-counted h code r es e = rw (← eb, ← ec, ← en, ← ek, ← es) (eq-no count 15 _ _ r h e)
+  formed-counted h code r es e = rw (← ek, ← eb, ← ec, ← en, ← es) (eq-no count 15 _ _ r h e)
 
 pub chain-in : (rd : Reader) (n c size : ℕ) → c ≡ lower rd n 1 → n < size → c < size
 chain-in rd n c size e p = omega (arith, lower-most rd n 1)

@@ -3,7 +3,6 @@ use derivation_tables::tables;
 use derivation_trees::keys;
 use derivation_trees::shapes;
 use reader::trees;
-use reader::words;
 ghost use mathlib.Core.Path.{_≡_};
 ghost use Prim.Native.Nat.{_<_};
 ghost use lib.ListN.{length};
@@ -62,19 +61,19 @@ fn are_formulas(obligation: &[u8], second: &[u8], m: usize, keys: &[usize], c: u
     true
 }
 
-// Have the parts of node n the number, classes and forms of its rule? `byte` is the rule's.
+// Have the parts of node n the number, classes and forms of its rule k, whose byte is `byte`?
 pub fn parts_formed(
     obligation: &[u8],
     second: &[u8],
     m: usize,
     keys: &[usize],
     n: usize,
+    k: usize,
     byte: u8,
 ) -> bool
-    requires { ⌜ Table (word (now obligation) (now second) m) (now keys) × (n < length (now keys)) × (byte ≡ derivationByte (word (now obligation) (now second) m n 0)) ⌝ }
+    requires { ⌜ Table (word (now obligation) (now second) m) (now keys) × (n < length (now keys)) × (k ≡ word (now obligation) (now second) m n 0) × (byte ≡ derivationByte k) ⌝ }
     ensures { λ r. ⌜ r ≡ partsFormed (word (now (obligation .entry)) (now (second .entry)) m) n ⌝ }
 {
-    let k = words::word_at(obligation, second, m, n, 0);
     let c = trees::lower_at(obligation, second, m, n, 1);
     let count = rule_bytes::parts_of(byte);
     // The number varies: BR2 keeps any number of members.

@@ -41,7 +41,7 @@ fn goal_fits(
     formed::goal_formed(obligation, second, m, keys, goal, k)
 }
 
-// Has node n as many premises as its rule, each a rule node? `byte` is the rule's.
+// Has node n as many premises as its rule, each a rule node? `byte` is that of the rule.
 fn premises_fit(obligation: &[u8], second: &[u8], m: usize, n: usize, byte: u8) -> bool
     requires { ⌜ byte ≡ derivationByte (word (now obligation) (now second) m n 0) ⌝ }
     ensures { λ r. ⌜ r ≡ premisesAt (word (now (obligation .entry)) (now (second .entry)) m) n ⌝ }
@@ -137,7 +137,7 @@ fn form_fault(
 {
     let k = words::word_at(obligation, second, m, n, 0);
     let byte = rule_bytes::derivation_byte(k);
-    if !formed::parts_formed(obligation, second, m, keys, n, byte) {
+    if !formed::parts_formed(obligation, second, m, keys, n, k, byte) {
         return 13;
     }
     if !goal_fits(obligation, second, m, keys, frames, d, n) {

@@ -61,9 +61,9 @@ pub entry-rest : (table : List ℕ) (k i : ℕ) → Rest 32 k 15 → 0 ≡ ruleE
 entry-rest table k i rest = sym (entry-none table k i (λ j low high same. omega (arith, rest-past 32 k 15 (omega arith) rest)))
 
 -- the shapes of a node's parts
-module _ (rd : Reader) (n k c byte count : ℕ) (ek : k ≡ rd n 0) (ec : c ≡ lower rd n 1) (eb : byte ≡ proofByte (rd n 0)) (en : count ≡ partsOf byte) where
+module _ (rd : Reader) (n k c byte count : ℕ) (ek : k ≡ rd n 0) (ec : c ≡ lower rd n 1) (eb : byte ≡ proofByte k) (en : count ≡ partsOf byte) where
   count-parts : count ≡ partsOf (proofByte k)
-  count-parts = en ∙ ap partsOf (eb ∙ ap proofByte (sym ek))
+  count-parts = en ∙ ap partsOf eb
 
   pub shapes-varying : count ≡ 15 → (r : Bool) → r ≡ instanceShapes (itemTrees rd c) → r ≡ haveShapes (rowOf rd n .shapes) (map (tree rd) (parts rd n))
   unfolding rowOf parts instanceShapes itemTrees row ifEq

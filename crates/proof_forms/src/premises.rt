@@ -29,7 +29,7 @@ fn are_nodes(obligation: &[u8], second: &[u8], m: usize, c: usize, n: usize) -> 
     are_nodes(obligation, second, m, rest, n - 1)
 }
 
-// Has node n as many premises as its rule, each a rule node? `byte` is the rule's.
+// Has node n as many premises as its rule, each a rule node? `byte` is that of the rule.
 pub fn premises_fit(obligation: &[u8], second: &[u8], m: usize, n: usize, byte: u8) -> bool
     requires { ⌜ byte ≡ proofByte (word (now obligation) (now second) m n 0) ⌝ }
     ensures { λ r. ⌜ r ≡ premisesFit 1 (word (now (obligation .entry)) (now (second .entry)) m) n (length (rowOf (word (now (obligation .entry)) (now (second .entry)) m) n .adds)) ⌝ }

@@ -2,7 +2,6 @@
 use crate::tables;
 use reader::kinds;
 use reader::trees;
-use reader::words;
 ghost use mathlib.Core.Path.{_≡_};
 ghost use mathlib.Core.List.{map};
 ghost use lib.ListN.{replicate};
@@ -92,12 +91,11 @@ fn instance_shapes(obligation: &[u8], second: &[u8], m: usize, c: usize) -> bool
     are_types(obligation, second, m, types, count)
 }
 
-// Have the parts of node n the number, classes and forms of its rule? `byte` is the rule's.
-pub fn shapes_fit(obligation: &[u8], second: &[u8], m: usize, n: usize, byte: u8) -> bool
-    requires { ⌜ byte ≡ proofByte (word (now obligation) (now second) m n 0) ⌝ }
+// Have the parts of node n the number, classes and forms of its rule k, whose byte is `byte`?
+pub fn shapes_fit(obligation: &[u8], second: &[u8], m: usize, n: usize, k: usize, byte: u8) -> bool
+    requires { ⌜ (k ≡ word (now obligation) (now second) m n 0) × (byte ≡ proofByte k) ⌝ }
     ensures { λ r. ⌜ r ≡ haveShapes (rowOf (word (now (obligation .entry)) (now (second .entry)) m) n .shapes) (map (tree (word (now (obligation .entry)) (now (second .entry)) m)) (parts (word (now (obligation .entry)) (now (second .entry)) m) n)) ⌝ }
 {
-    let k = words::word_at(obligation, second, m, n, 0);
     let c = trees::lower_at(obligation, second, m, n, 1);
     let count = rule_bytes::parts_of(byte);
     // The number varies: it is that of 45's first part.

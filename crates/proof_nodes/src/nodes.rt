@@ -95,7 +95,7 @@ fn form_fault(
 {
     let k = words::word_at(obligation, second, m, n, 0);
     let byte = rule_bytes::proof_byte(k);
-    if !shapes::shapes_fit(obligation, second, m, n, byte) {
+    if !shapes::shapes_fit(obligation, second, m, n, k, byte) {
         return 13;
     }
     if !premises::premises_fit(obligation, second, m, n, byte) {

@@ -6,19 +6,17 @@ use Rattle.derivation_forms.proofs.formed.parts_formed.Tie as tie
 
 pub parts-formed-spec : {M : Type 1} → statement M
 parts-formed-spec = tie.close (tie.spec
-    -- word-at-requires: 3 args
+    -- lower-at-requires: 3 args
     (λ c κs. search needs)
-    -- lower-at-requires: word-at; 4 args
+    -- parts-of-requires: lower-at; 4 args
     (λ c κs. search needs)
-    -- parts-of-requires: lower-at; 1 word-at; 5 args
-    (λ c κs. search needs)
-    -- are-formulas-requires: if1; 1 parts-of; 2 lower-at; 3 word-at; 7 args
+    -- are-formulas-requires: if1; 1 parts-of; 2 lower-at; 6 args
     (λ c κs. (search needs, search chain-in))
-    -- returns: are-formulas; 1 if1; 2 parts-of; 3 lower-at; 4 word-at; 8 args
+    -- returns: are-formulas; 1 if1; 2 parts-of; 3 lower-at; 7 args
     (λ c. search formed-varying)
-    -- column-requires: if1; 1 parts-of; 2 lower-at; 3 word-at; 7 args
+    -- column-requires: if1; 1 parts-of; 2 lower-at; 6 args
     (λ c κs. search needs)
-    -- have-shapes-requires: column; 1 if1; 2 parts-of; 3 lower-at; 4 word-at; 8 args
+    -- have-shapes-requires: column; 1 if1; 2 parts-of; 3 lower-at; 7 args
     (λ c κs. (search needs, search chain-in))
-    -- returns-2: have-shapes; 1 column; 2 if1; 3 parts-of; 4 lower-at; 5 word-at; 9 args
+    -- returns-2: have-shapes; 1 column; 2 if1; 3 parts-of; 4 lower-at; 8 args
     (λ c. search formed-counted))

@@ -13,7 +13,7 @@ form-fault-spec = tie.close (tie.spec
     -- derivation-byte-requires: word-at; 5 args
     (λ c κs. search needs)
     -- parts-formed-requires: derivation-byte; 1 word-at; 6 args
-    (λ c κs. (search needs, search needs, search derivation-byte-at))
+    (λ c κs. (search needs, search needs, search needs, search needs))
     -- returns: if1; 1 parts-formed; 2 derivation-byte; 3 word-at; 8 args
     (λ c. search (form-at, demands))
     -- goal-fits-requires: if1; 1 parts-formed; 2 derivation-byte; 3 word-at; 8 args

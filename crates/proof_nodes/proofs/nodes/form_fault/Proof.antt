@@ -13,7 +13,7 @@ form-fault-spec = tie.close (tie.spec
     -- proof-byte-requires: word-at; 6 args
     (λ c κs. search needs)
     -- shapes-fit-requires: proof-byte; 1 word-at; 7 args
-    (λ c κs. search proof-byte-at)
+    (λ c κs. (search needs, search needs))
     -- returns: if1; 1 shapes-fit; 2 proof-byte; 3 word-at; 9 args
     (λ c. search demands)
     -- premises-fit-requires: if1; 1 shapes-fit; 2 proof-byte; 3 word-at; 9 args
