@@ -93,8 +93,8 @@ impl Numbers {
             }
             _ => rule.parts,
         };
-        let more = |list: Vec<u32>, right: usize| list.len() as i64 - right as i64;
-        let off = match (more(parts, right), more(premises, rule.premises)) {
+        let excess = |list: Vec<u32>, right: usize| list.len() as i64 - right as i64;
+        let off = match (excess(parts, right), excess(premises, rule.premises)) {
             (-1, 0) => Off::PartFewer,
             (1, 0) => Off::PartMore,
             (0, -1) => Off::PremiseFewer,

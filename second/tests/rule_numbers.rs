@@ -15,7 +15,7 @@ const MOST: usize = 16;
 /// In a half: the number varies.
 const VARIES: usize = 15;
 
-type Numbers = BTreeSet<usize>;
+type Passing = BTreeSet<usize>;
 
 /// The cases in which a rule of this kind is the root of an accepted file.
 fn right_cases(kind: u32) -> Vec<Vector> {
@@ -67,13 +67,13 @@ fn check(kind: Second, obligation: &[u8], second: &[u8]) -> Answer {
 }
 
 /// The numbers of parts and those of premises with which the root passes.
-fn passing(case: &Vector) -> (Numbers, Numbers) {
+fn passing(case: &Vector) -> (Passing, Passing) {
     let pairs = (0..=MOST).flat_map(|parts| (0..=MOST).map(move |premises| (parts, premises)));
     let passing = pairs.filter(|&(parts, premises)| passes(case, parts, premises));
     passing.unzip()
 }
 
-fn half(kind: u32, numbers: Numbers) -> usize {
+fn half(kind: u32, numbers: Passing) -> usize {
     let numbers: Vec<usize> = numbers.into_iter().collect();
     match numbers[..] {
         [] => panic!("{kind}: no number passes"),
@@ -83,7 +83,7 @@ fn half(kind: u32, numbers: Numbers) -> usize {
 }
 
 fn found(kind: u32) -> RuleByte {
-    let (parts, premises): (Vec<Numbers>, Vec<Numbers>) =
+    let (parts, premises): (Vec<Passing>, Vec<Passing>) =
         right_cases(kind).iter().map(passing).unzip();
     let [parts, premises] =
         [parts, premises].map(|list| half(kind, list.into_iter().flatten().collect()));
@@ -112,8 +112,8 @@ fn each_byte() {
 #[test]
 fn parts_of_45_are_its_counts() {
     let found = right_cases(45).into_iter().map(|case| passing(&case).0);
-    let wanted = [3, 4, 5, 6].map(|number| Numbers::from([number]));
-    assert_eq!(found.collect::<Vec<Numbers>>(), wanted);
+    let wanted = [3, 4, 5, 6].map(|number| Passing::from([number]));
+    assert_eq!(found.collect::<Vec<Passing>>(), wanted);
 }
 
 #[test]

@@ -11,7 +11,7 @@ use Rattle.reader.specs.Words.{Reader}
 use Rattle.reader.specs.Tests.{both, every, ifEq, ifLt}
 use Rattle.reader.specs.TestLaws.{eq-yes, eq-no}
 use Rattle.reader.specs.Trees.{Tree, lower}
-use Rattle.reader.specs.Chains.{items, parts}
+use Rattle.reader.specs.Chains.{parts}
 use Rattle.reader.specs.TreeLaws.{lower-below, items-zero, items-step}
 use Rattle.reader.specs.Shapes.{Shape, formula, hasShape, haveShapes}
 use Rattle.derivation_rules.specs.Erase.{bareTree, bareParts}
@@ -22,8 +22,9 @@ use Rattle.derivation_trees.specs.Table.{KeyOf}
 use Rattle.derivation_trees.specs.Shapes.{shapeOf}
 use Rattle.derivation_frames.specs.Frames.{chainTrees}
 use Rattle.derivation_forms.specs.Forms.{lower-most}
-use Rattle.rule_bytes.specs.Bytes.{derivationByte, partsOf}
-use Rattle.rule_bytes.specs.DerivationRows.{derivation-varies}
+use Rattle.reader_bytes.specs.Bytes.{partsOf}
+use Rattle.derivation_bytes.specs.Bytes.{derivationByte}
+use Rattle.derivation_bytes.specs.Rows.{derivation-varies}
 use Rattle.derivation_tables.specs.Tables.{shapesOf, column, oneOf, shapes-are, goal-shapes-are}
 
 -- a formula
@@ -109,7 +110,7 @@ key-normal rd size x t k = k .stands .normal
 pub key-shape : (rd : Reader) (size x : ℕ) (t : Tree) (s : Shape) (r : Bool) → KeyOf rd size x t → r ≡ hasShape s (decoded rd x) → r ≡ hasShape s t
 key-shape rd size x t s r k e = rw (← k .stands .means) e
 
--- one shape more, of one more
+-- one tree more: its shape is the lowest byte of the code
 shapes-next : (n code : ℕ) (t : Tree) (ts : List Tree) → (n ≡ 0 → ⊥) →
     haveShapes (shapesOf n code) (t ∷ ts) ≡ both (hasShape (shapeOf (code % 256)) t) (haveShapes (shapesOf (n - 1) (code / 256)) ts)
 unfolding haveShapes both shapesOf

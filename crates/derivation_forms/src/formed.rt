@@ -12,7 +12,7 @@ ghost use Rattle.reader.specs.Shapes.{haveShapes};
 ghost use Rattle.derivation_trees.specs.Keys.{decoded, Normal};
 ghost use Rattle.derivation_trees.specs.Table.{Table};
 ghost use Rattle.derivation_frames.specs.Frames.{chainTrees};
-ghost use Rattle.rule_bytes.specs.Bytes.{derivationByte};
+ghost use Rattle.derivation_bytes.specs.Bytes.{derivationByte};
 ghost use Rattle.derivation_tables.specs.Tables.{shapesOf};
 ghost use Rattle.derivation_forms.specs.Formed.{isFormula, partsFormed, goalShaped};
 
@@ -75,7 +75,7 @@ pub fn parts_formed(
     ensures { λ r. ⌜ r ≡ partsFormed (word (now (obligation .entry)) (now (second .entry)) m) n ⌝ }
 {
     let c = trees::lower_at(obligation, second, m, n, 1);
-    let count = rule_bytes::parts_of(byte);
+    let count = reader_bytes::parts_of(byte);
     // The number varies: BR2 keeps any number of members.
     if count == 15 {
         return are_formulas(obligation, second, m, keys, c);

@@ -19,8 +19,9 @@ use Rattle.derivation_closedness.specs.Reaches.{Unmarked}
 use Rattle.derivation_replacement.specs.Replaced.{Tables}
 use Rattle.derivation_rules.specs.RowLaws.{by-rule}
 use Rattle.derivation_frames.specs.Frames.{goalAt, countAt, membersAt, stateOf, Framed}
-use Rattle.rule_bytes.specs.Bytes.{derivationByte, premisesOf}
-use Rattle.rule_bytes.specs.DerivationRows.{derivation-premises}
+use Rattle.reader_bytes.specs.Bytes.{premisesOf}
+use Rattle.derivation_bytes.specs.Bytes.{derivationByte}
+use Rattle.derivation_bytes.specs.Rows.{derivation-premises}
 use Rattle.derivation_tables.specs.Tables.{column, column-none}
 use Rattle.derivation_forms.specs.Formed.{partsFormed, goalShaped, parts-formed, goal-shaped}
 use Rattle.derivation_members.specs.Needs.{needsHeld, onlyGoals, needs-held, only-goals}

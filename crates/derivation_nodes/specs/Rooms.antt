@@ -17,8 +17,9 @@ use Rattle.derivation_rules.specs.Rules.{State, row}
 use Rattle.reader.specs.Members.{part}
 use Rattle.derivation_rules.specs.Check.{fewMembers}
 use Rattle.derivation_rules.specs.RowLaws.{row-none, by-rule}
-use Rattle.rule_bytes.specs.Bytes.{byteOf, derivationByte, premisesOf}
-use Rattle.rule_bytes.specs.DerivationRows.{premises-none}
+use Rattle.reader_bytes.specs.Bytes.{byteOf, premisesOf}
+use Rattle.derivation_bytes.specs.Bytes.{derivationByte}
+use Rattle.derivation_bytes.specs.Rows.{premises-none}
 use Rattle.derivation_tables.specs.Tables.{column}
 
 -- the premises of node n have room beside h members; those of BR2 are its parts

@@ -13,7 +13,7 @@ ghost use mathlib.Core.Path.{_≡_};
 ghost use Prim.Native.Nat.{_≤_};
 ghost use lib.ListN.{length};
 ghost use Rattle.reader.specs.Words.{word};
-ghost use Rattle.rule_bytes.specs.Bytes.{derivationByte};
+ghost use Rattle.derivation_bytes.specs.Bytes.{derivationByte};
 ghost use Rattle.derivation_trees.specs.Keys.{decoded};
 ghost use Rattle.derivation_replacement.specs.Replaced.{Tables};
 ghost use Rattle.derivation_rules.specs.Check.{nodeFault};
@@ -46,7 +46,7 @@ fn premises_fit(obligation: &[u8], second: &[u8], m: usize, n: usize, byte: u8) 
     requires { ⌜ byte ≡ derivationByte (word (now obligation) (now second) m n 0) ⌝ }
     ensures { λ r. ⌜ r ≡ premisesAt (word (now (obligation .entry)) (now (second .entry)) m) n ⌝ }
 {
-    let count = rule_bytes::premises_of(byte);
+    let count = reader_bytes::premises_of(byte);
     premises::premises_fit(obligation, second, m, n, count)
 }
 
@@ -97,7 +97,7 @@ fn room_beside(obligation: &[u8], second: &[u8], m: usize, h: usize, n: usize) -
         let c = trees::lower_at(obligation, second, m, n, 1);
         return chains::at_most(obligation, second, m, c, 2048);
     }
-    let count = rule_bytes::premises_of(rule_bytes::derivation_byte(k));
+    let count = reader_bytes::premises_of(derivation_bytes::derivation_byte(k));
     if count == 0 {
         return true;
     }
@@ -136,7 +136,7 @@ fn form_fault(
     ensures { λ r. ⌜ r ≡ formFault (word (now (obligation .entry)) (now (second .entry)) m) (stateOf (word (now (obligation .entry)) (now (second .entry)) m) (now (frames .entry)) d) n ⌝ }
 {
     let k = words::word_at(obligation, second, m, n, 0);
-    let byte = rule_bytes::derivation_byte(k);
+    let byte = derivation_bytes::derivation_byte(k);
     if !formed::parts_formed(obligation, second, m, keys, n, k, byte) {
         return 13;
     }

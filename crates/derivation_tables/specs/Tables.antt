@@ -4,7 +4,7 @@ use mathlib.Core.Path.{_≡_, refl, sym, ap, _∙_}
 use mathlib.Core.List.{List, [], _∷_, _++_}
 use mathlib.Core.Bool.{Bool, true, false}
 use lib.Dec.{eqb, ltb}
-use lib.ListN.{getD, length, drop}
+use lib.ListN.{getD, drop}
 use native.Mathlib.Omega.{arith}
 use borrow.Author.Tests.{eqb-true, eqb-false, lt-ltb, ltb-true, ltb-false}
 use Rattle.reader.specs.Tests.{ifEq, ifLt}
@@ -16,8 +16,9 @@ use Rattle.derivation_rules.specs.Rules.{State, row, premise}
 use Rattle.reader.specs.Members.{part}
 use Rattle.derivation_trees.specs.Shapes.{shapeOf}
 use Rattle.derivation_rules.specs.RowLaws.{NoRule, row-none, by-rule}
-use Rattle.rule_bytes.specs.Bytes.{byteOf, derivationByte, partsOf}
-use Rattle.rule_bytes.specs.DerivationRows.{parts-none}
+use Rattle.reader_bytes.specs.Bytes.{byteOf, partsOf}
+use Rattle.derivation_bytes.specs.Bytes.{derivationByte}
+use Rattle.derivation_bytes.specs.Rows.{parts-none}
 
 -- A form names a tree of a node: 4 times the source and a step. Source 1 is the goal, from 2 on the parts; step 0 itself, 1 its first part, 2 its second,
 -- 3 its negation. Form 0 is none.
@@ -88,7 +89,7 @@ premisesFrom ps st g e rest = ifEq g 0 [] (premise st (grown (st .members) ps (s
 
 -- the rows say what the table says
 module _ (ps : List Tree) (st : State) where
-  -- in the number that the byte has
+  -- as many shapes as the byte says
   pub shapes-are : (k : ℕ) → (partsOf (derivationByte k) ≡ 15 → ⊥) → row k ps st .shapes ≡ shapesOf (partsOf (derivationByte k)) (column k 0)
   unfolding row ifEq ifLt partsOf derivationByte byteOf column shapesOf shapeOf down iter
   shapes-are =

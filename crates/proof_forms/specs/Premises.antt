@@ -15,8 +15,9 @@ use Rattle.reader.specs.Chains.{items, premises, parts}
 use Rattle.reader.specs.TreeLaws.{items-zero, items-step}
 use Rattle.proof_rules.specs.Check.{rowOf}
 use Rattle.reader.specs.Members.{premisesFit}
-use Rattle.rule_bytes.specs.Bytes.{proofByte, premisesOf}
-use Rattle.rule_bytes.specs.ProofRows.{proof-premises}
+use Rattle.reader_bytes.specs.Bytes.{premisesOf}
+use Rattle.proof_bytes.specs.Bytes.{proofByte}
+use Rattle.proof_bytes.specs.Rows.{proof-premises}
 
 -- the items of chain c are n rule nodes
 unfoldable pub areNodes : Reader → ℕ → ℕ → Bool

@@ -13,7 +13,7 @@ use Rattle.reader.specs.Down.{iter, down}
 use Rattle.reader.specs.DownLaws.{Local, down-zero, down-step}
 use Rattle.reader.specs.Kinds.{class}
 use Rattle.reader.specs.Trees.{Tree, leaf, lower, child, atom, tree, kindOf, atomOf}
-use Rattle.reader.specs.Chains.{itemTrees, parts}
+use Rattle.reader.specs.Chains.{itemTrees}
 use Rattle.reader.specs.Shapes.{Shape, ofKind, ofClass, negated, type, formula, forAllTypes, hasShape, haveShapes}
 use Rattle.reader.specs.TreeLaws.{tree-zero}
 use Rattle.reader_chains.specs.Shapes.{first-tree, atom-tree, lower-zero}
@@ -71,7 +71,7 @@ module _ (rd : Reader) (i s k : ℕ) (ek : k ≡ kindOf (tree rd i)) where
           rw (shape-any s)
           (simp (shapeStep, ifLt, le-ltb s 32 high, le-ltb s 64 higher, hasShape, both, ← ek, eq-eqb k 18 h, first-tree rd i, ← ex) e)
 
--- one shape more, of one more
+-- one tree more: its shape is the lowest byte of the code
 shapes-next : (n code : ℕ) (t : Tree) (ts : List Tree) → (n ≡ 0 → ⊥) →
     haveShapes (shapesOf n code) (t ∷ ts) ≡ both (hasShape (shapeOf (code % 256)) t) (haveShapes (shapesOf (n - 1) (code / 256)) ts)
 unfolding haveShapes both shapesOf

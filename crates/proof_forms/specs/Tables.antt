@@ -17,8 +17,9 @@ use Rattle.proof_rules.specs.Check.{rowOf}
 use Rattle.reader.specs.Down.{iter, down}
 use Rattle.proof_rules.specs.Rules.{row}
 use Rattle.proof_rules.specs.RowLaws.{NoRule, row-none, by-rule}
-use Rattle.rule_bytes.specs.Bytes.{byteOf, proofByte, partsOf}
-use Rattle.rule_bytes.specs.ProofRows.{parts-none, proof-varies}
+use Rattle.reader_bytes.specs.Bytes.{byteOf, partsOf}
+use Rattle.proof_bytes.specs.Bytes.{proofByte}
+use Rattle.proof_bytes.specs.Rows.{parts-none, proof-varies}
 use Rattle.proof_forms.specs.Shapes.{shapeStep, shapeOf, shapesOf, instanceShapes}
 
 -- a byte for each part, the first's lowest: a kind, 32 and a class, or 64 and what stands under a ¬
@@ -46,7 +47,7 @@ entry-none table k i h = go (ltb k 32) refl
     go true e = refl
     go false e = let z : 32 ≤ k = ltb-false k 32 e in simp (lt-ltb 46 k (past-by z (ltb 46 k) refl))
 
--- the rows say what the table says, in the number that the byte has
+-- the rows say what the table says, as many shapes as the byte says
 pub shapes-are : (ps : List Tree) (k : ℕ) → (partsOf (proofByte k) ≡ 15 → ⊥) → row k ps .shapes ≡ shapesOf (partsOf (proofByte k)) (shapeCode k)
 unfolding row ifEq partsOf proofByte byteOf shapeCode ruleEntry ifLt shapesOf shapeOf shapeStep down iter
 shapes-are ps =

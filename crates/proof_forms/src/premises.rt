@@ -8,7 +8,7 @@ ghost use Rattle.reader.specs.Words.{word};
 ghost use Rattle.proof_rules.specs.Rules.{Row};
 ghost use Rattle.proof_rules.specs.Check.{rowOf};
 ghost use Rattle.reader.specs.Members.{premisesFit};
-ghost use Rattle.rule_bytes.specs.Bytes.{proofByte};
+ghost use Rattle.proof_bytes.specs.Bytes.{proofByte};
 ghost use Rattle.proof_forms.specs.Premises.{areNodes};
 
 // Are the items of chain c n rule nodes?
@@ -35,5 +35,5 @@ pub fn premises_fit(obligation: &[u8], second: &[u8], m: usize, n: usize, byte: 
     ensures { λ r. ⌜ r ≡ premisesFit 1 (word (now (obligation .entry)) (now (second .entry)) m) n (length (rowOf (word (now (obligation .entry)) (now (second .entry)) m) n .adds)) ⌝ }
 {
     let c = trees::lower_at(obligation, second, m, n, 2);
-    are_nodes(obligation, second, m, c, rule_bytes::premises_of(byte))
+    are_nodes(obligation, second, m, c, reader_bytes::premises_of(byte))
 }

@@ -11,7 +11,7 @@ ghost use Rattle.reader.specs.Chains.{itemTrees, parts};
 ghost use Rattle.reader.specs.Shapes.{type, hasShape, haveShapes};
 ghost use Rattle.proof_rules.specs.Rules.{Row};
 ghost use Rattle.proof_rules.specs.Check.{rowOf};
-ghost use Rattle.rule_bytes.specs.Bytes.{proofByte};
+ghost use Rattle.proof_bytes.specs.Bytes.{proofByte};
 ghost use Rattle.proof_forms.specs.Shapes.{shapeOf, shapesOf, instanceShapes};
 
 // Has record i the shape with number s?
@@ -97,8 +97,8 @@ pub fn shapes_fit(obligation: &[u8], second: &[u8], m: usize, n: usize, k: usize
     ensures { λ r. ⌜ r ≡ haveShapes (rowOf (word (now (obligation .entry)) (now (second .entry)) m) n .shapes) (map (tree (word (now (obligation .entry)) (now (second .entry)) m)) (parts (word (now (obligation .entry)) (now (second .entry)) m) n)) ⌝ }
 {
     let c = trees::lower_at(obligation, second, m, n, 1);
-    let count = rule_bytes::parts_of(byte);
-    // The number varies: it is that of 45's first part.
+    let count = reader_bytes::parts_of(byte);
+    // The number varies: 45's first part counts its types.
     if count == 15 {
         return instance_shapes(obligation, second, m, c);
     }

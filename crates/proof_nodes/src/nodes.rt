@@ -94,7 +94,7 @@ fn form_fault(
     ensures { λ r. ⌜ r ≡ formFault (word (now (obligation .entry)) (now (second .entry)) m) (sequent (word (now (obligation .entry)) (now (second .entry)) m) (now (memory .entry)) h) n ⌝ }
 {
     let k = words::word_at(obligation, second, m, n, 0);
-    let byte = rule_bytes::proof_byte(k);
+    let byte = proof_bytes::proof_byte(k);
     if !shapes::shapes_fit(obligation, second, m, n, k, byte) {
         return 13;
     }

@@ -1,7 +1,7 @@
 use borrow.Author.Needs.{needs}
 use native.Mathlib.Omega.{arith}
 use Rattle.reader.specs.TestLaws.{demands}
-use Rattle.rule_bytes.specs.DerivationRows.{derivation-byte-at}
+use Rattle.derivation_bytes.specs.Rows.{derivation-byte-at}
 use Rattle.derivation_nodes.specs.Nodes.{form-at}
 use Rattle.derivation_nodes.proofs.nodes.form_fault.Statement.{statement}
 use Rattle.derivation_nodes.proofs.nodes.form_fault.Tie as tie

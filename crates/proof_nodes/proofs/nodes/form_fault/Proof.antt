@@ -1,6 +1,6 @@
 use borrow.Author.Needs.{needs}
 use Rattle.reader.specs.TestLaws.{demands}
-use Rattle.rule_bytes.specs.ProofRows.{proof-byte-at}
+use Rattle.proof_bytes.specs.Rows.{proof-byte-at}
 use Rattle.proof_nodes.specs.Nodes.{At, formFault}
 use Rattle.proof_nodes.proofs.nodes.form_fault.Statement.{statement}
 use Rattle.proof_nodes.proofs.nodes.form_fault.Tie as tie

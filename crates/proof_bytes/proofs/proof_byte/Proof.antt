@@ -1,9 +1,10 @@
 use mathlib.Core.Path.{sym, ap}
 use Rattle.reader.specs.Tests.{ifLt}
-use Rattle.rule_bytes.specs.Bytes.{proofBytes, byteOf, proofByte}
-use Rattle.rule_bytes.specs.ByteLaws.{byte-rest}
-use Rattle.rule_bytes.proofs.proof_byte.Statement.{statement}
-use Rattle.rule_bytes.proofs.proof_byte.Tie as tie
+use Rattle.reader_bytes.specs.Bytes.{byteOf}
+use Rattle.reader_bytes.specs.ByteLaws.{byte-rest}
+use Rattle.proof_bytes.specs.Bytes.{proofBytes, proofByte}
+use Rattle.proof_bytes.proofs.proof_byte.Statement.{statement}
+use Rattle.proof_bytes.proofs.proof_byte.Tie as tie
 
 pub proof-byte-spec : {M : Type 1} → statement M
 unfolding proofByte byteOf ifLt

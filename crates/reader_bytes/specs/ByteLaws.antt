@@ -1,5 +1,5 @@
 -- What a half of a byte says of a number, that no other half says it, and the kinds that a table has no byte for.
-use Prim.Native.Nat.{ℕ, _+_, _-_, _/_, _%_, _<_, _≤_}
+use Prim.Native.Nat.{ℕ, _+_, _-_, _<_, _≤_}
 use mathlib.Core.Path.{_≡_, refl, sym, _∙_}
 use mathlib.Core.List.{List, []}
 use mathlib.Core.Bool.{Bool, true, false}
@@ -11,30 +11,30 @@ use Rattle.reader.specs.Tests.{ifLt}
 use Rattle.reader.specs.TestLaws.{Rest, rest-past}
 use Rattle.reader.specs.WordLaws.{past-end}
 use Rattle.reader.specs.Trees.{Tree}
-use Rattle.rule_bytes.specs.Bytes.{byteOf, partsOf, premisesOf}
+use Rattle.reader_bytes.specs.Bytes.{byteOf, partsOf, premisesOf}
 
--- a number that some lists of parts make another
+-- a number that is not the same for all lists of parts
 pub record Varies (number : List Tree → ℕ) : Type 0 where
   pub some : List Tree
   pub others : List Tree
   pub differ : number some ≡ number others → ⊥
 
--- "with 15 for a number that varies": what a half says of the number that a list of parts makes
+-- "with 15 for a number that varies": what a half says of a number that may go by the parts
 pub record Says (half : ℕ) (number : List Tree → ℕ) : Type 0 where
   pub fixed : (half ≡ 15 → ⊥) → (ps : List Tree) → number ps ≡ half
   pub varies : half ≡ 15 → Varies number
 
--- One half alone says what is so: a wrong one, a 15 for a number that is fixed or a number for one that varies included, says what is not.
+-- One half alone says it: another, also a 15 for a number that is fixed or a number for one that varies, says something false.
 pub says-one : (a b : ℕ) (number : List Tree → ℕ) → Says a number → Says b number → a ≡ b
 says-one a b number p q = go (eqb a 15) refl (eqb b 15) refl
   where
-    same : (half : ℕ) → (half ≡ 15 → ⊥) → Says half number → Varies number → ⊥
-    same half h s v = v .differ (s .fixed h (v .some) ∙ sym (s .fixed h (v .others)))
+    not-both : (half : ℕ) → (half ≡ 15 → ⊥) → Says half number → Varies number → ⊥
+    not-both half h s v = v .differ (s .fixed h (v .some) ∙ sym (s .fixed h (v .others)))
 
     go : (x : Bool) → eqb a 15 ≡ x → (y : Bool) → eqb b 15 ≡ y → a ≡ b
     go true e true f = eqb-true a 15 e ∙ sym (eqb-true b 15 f)
-    go true e false f = absurd (same b (eqb-false b 15 f) q (p .varies (eqb-true a 15 e)))
-    go false e true f = absurd (same a (eqb-false a 15 e) p (q .varies (eqb-true b 15 f)))
+    go true e false f = absurd (not-both b (eqb-false b 15 f) q (p .varies (eqb-true a 15 e)))
+    go false e true f = absurd (not-both a (eqb-false a 15 e) p (q .varies (eqb-true b 15 f)))
     go false e false f = sym (p .fixed (eqb-false a 15 e) []) ∙ q .fixed (eqb-false b 15 f) []
 
 -- two bytes with the same halves are the same

@@ -1,21 +1,22 @@
 -- The bytes of rules 64 to 80 say what the rows say: each law is one computation over the whole table.
-use Prim.Native.Nat.{ℕ, _+_, _/_, _%_, _<_, _≤_}
+use Prim.Native.Nat.{ℕ, _≤_}
 use mathlib.Core.Path.{_≡_, refl, sym, ap, _∙_}
 use mathlib.Core.List.{List, [], _∷_}
-use lib.ListN.{length, replicate}
+use lib.ListN.{length}
 use native.Mathlib.Omega.{arith}
 use Rattle.reader.specs.Tests.{ifEq, ifLt}
 use Rattle.reader.specs.Trees.{Tree, leaf}
 use Rattle.derivation_rules.specs.Rules.{State, row}
 use Rattle.derivation_rules.specs.RowLaws.{NoRule, row-none, by-rule}
-use Rattle.rule_bytes.specs.Bytes.{derivationBytes, byteOf, derivationByte, partsOf, premisesOf}
-use Rattle.rule_bytes.specs.ByteLaws.{Says, says-one, halves-one, always, no-byte}
+use Rattle.reader_bytes.specs.Bytes.{byteOf, partsOf, premisesOf}
+use Rattle.reader_bytes.specs.ByteLaws.{Says, says-one, halves-one, always, no-byte}
+use Rattle.derivation_bytes.specs.Bytes.{derivationBytes, derivationByte}
 
 -- the byte of a kind that was read
 pub derivation-byte-at : (word k byte : ℕ) → k ≡ word → byte ≡ derivationByte k → byte ≡ derivationByte word
 derivation-byte-at word k byte ek eb = rw (← ek) eb
 
--- no rule has no byte
+-- a kind that is no rule has the byte 0
 byte-none : (k : ℕ) → NoRule k → 0 ≡ derivationByte k
 unfolding derivationByte
 byte-none k other = no-byte 64 derivationBytes k (λ low. let past : k ≤ 80 → ⊥ = λ high. other k low high refl in omega arith)

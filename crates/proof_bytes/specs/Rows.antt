@@ -1,21 +1,22 @@
 -- The bytes of rules 32 to 46 say what the rows say: each law is one computation over the whole table.
-use Prim.Native.Nat.{ℕ, _+_, _/_, _%_, _<_, _≤_}
+use Prim.Native.Nat.{ℕ, _≤_}
 use mathlib.Core.Path.{_≡_, refl, sym, ap, _∙_}
 use mathlib.Core.List.{List, [], _∷_}
-use lib.ListN.{length, replicate}
+use lib.ListN.{length}
 use native.Mathlib.Omega.{arith}
 use Rattle.reader.specs.Tests.{ifEq, ifLt}
 use Rattle.reader.specs.Trees.{Tree, leaf, node, atomOf}
 use Rattle.proof_rules.specs.Rules.{row}
 use Rattle.proof_rules.specs.RowLaws.{NoRule, row-none, by-rule}
-use Rattle.rule_bytes.specs.Bytes.{proofBytes, byteOf, proofByte, partsOf, premisesOf}
-use Rattle.rule_bytes.specs.ByteLaws.{Says, says-one, halves-one, always, no-byte}
+use Rattle.reader_bytes.specs.Bytes.{byteOf, partsOf, premisesOf}
+use Rattle.reader_bytes.specs.ByteLaws.{Says, says-one, halves-one, always, no-byte}
+use Rattle.proof_bytes.specs.Bytes.{proofBytes, proofByte}
 
 -- the byte of a kind that was read
 pub proof-byte-at : (word k byte : ℕ) → k ≡ word → byte ≡ proofByte k → byte ≡ proofByte word
 proof-byte-at word k byte ek eb = rw (← ek) eb
 
--- no rule has no byte
+-- a kind that is no rule has the byte 0
 byte-none : (k : ℕ) → NoRule k → 0 ≡ proofByte k
 unfolding proofByte
 byte-none k other = no-byte 32 proofBytes k (λ low. let past : k ≤ 46 → ⊥ = λ high. other k low high refl in omega arith)
@@ -32,12 +33,12 @@ proof-premises ps =
     refl refl refl refl refl refl refl refl refl refl refl refl refl refl refl
     (λ k other. rw (row-none k ps other) (ap premisesOf (byte-none k other)))
 
--- 45: a kind 22 of count 1 wants a type more than one of count 0
+-- 45: a kind 22 of count 2 wants a type more than one of count 1
 instance-varies : Says 15 (λ ps. length (row 45 ps .shapes))
 unfolding row ifEq atomOf
 instance-varies = record {
   fixed = λ h. absurd (h refl);
-  varies = λ e. record { some = []; others = node 22 1 leaf leaf leaf ∷ []; differ = λ z. absurd (omega arith) };
+  varies = λ e. record { some = node 22 1 leaf leaf leaf ∷ []; others = node 22 2 leaf leaf leaf ∷ []; differ = λ z. absurd (omega arith) };
 }
 
 -- the high half says the number of parts

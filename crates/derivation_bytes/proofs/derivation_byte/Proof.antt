@@ -1,9 +1,10 @@
 use mathlib.Core.Path.{sym, ap}
 use Rattle.reader.specs.Tests.{ifLt}
-use Rattle.rule_bytes.specs.Bytes.{derivationBytes, byteOf, derivationByte}
-use Rattle.rule_bytes.specs.ByteLaws.{byte-rest}
-use Rattle.rule_bytes.proofs.derivation_byte.Statement.{statement}
-use Rattle.rule_bytes.proofs.derivation_byte.Tie as tie
+use Rattle.reader_bytes.specs.Bytes.{byteOf}
+use Rattle.reader_bytes.specs.ByteLaws.{byte-rest}
+use Rattle.derivation_bytes.specs.Bytes.{derivationBytes, derivationByte}
+use Rattle.derivation_bytes.proofs.derivation_byte.Statement.{statement}
+use Rattle.derivation_bytes.proofs.derivation_byte.Tie as tie
 
 pub derivation-byte-spec : {M : Type 1} → statement M
 unfolding derivationByte byteOf ifLt

@@ -1,4 +1,0 @@
-pub mod Bytes
-pub mod ByteLaws
-pub mod ProofRows
-pub mod DerivationRows
