@@ -1,7 +1,7 @@
 #!/usr/bin/env bash
 # Each half of the 32 rule bytes (crates/proof_bytes, crates/derivation_bytes) made wrong, one check each: by one more in the code alone, by one more in code and definition, and 15 in
 # both where the number is fixed. Where the half is 15, 14 stands for one more and 3 for 15. Each must be refused at a fact: the result of the byte's function, or the law that holds its
-# table against the rules' rows. Six wrong halves are must-fail edits of the gate; all of these take some 6 minutes.
+# table against the rules' rows. Six wrong halves are must-fail edits of the gate; all of these take some 5 minutes.
 set -euo pipefail
 cd "$(dirname "$0")/.."
 work=target/wrong_halves
