@@ -13,6 +13,23 @@ use Rattle.reader.specs.Kinds.{nothingʳ, Layout, records, noLayout, rul
 unfoldable pub unpacked : ℕ → Layout
 unpacked n = record { class = n / 16777216; first = n / 65536 % 256; second = n / 256 % 256; third = n % 256 }
 
+-- what the code reads of a row that it looked up
+module _ (k row q : ℕ) (e : unpacked row ≡ layout k) where
+  pub class-in : q ≡ unpacked row .class → q ≡ class k
+  unfolding class
+  class-in h = h ∙ ap (λ (l : Layout). l .class) e
+
+  pub first-in : q ≡ unpacked row .first → q ≡ layout k .first
+  first-in h = h ∙ ap (λ (l : Layout). l .first) e
+
+  pub second-in : q ≡ unpacked row .second → q ≡ layout k .second
+  second-in h = h ∙ ap (λ (l : Layout). l .second) e
+
+  pub third-in : q ≡ unpacked row .third → q ≡ layout k .third
+  third-in h = h ∙ ap (λ (l : Layout). l .third) e
+
+pub ruleset rows = (first-in, second-in, third-in)
+
 -- the role of word w by a row
 abbrev roleIn : ℕ → Layout → ℕ
 roleIn w l = ifEq w 1 (l .first) (ifEq w 2 (l .second) (ifEq w 3 (l .third) nothingʳ))

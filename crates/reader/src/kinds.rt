@@ -7,8 +7,8 @@ ghost use Rattle.reader.specs.KindLaws.{unpacked};
 ghost use Rattle.reader.specs.Kinds.{layout, class, role, kindAt, classAt, roleAt, isRule, isKind, isNumber, isSymbol};
 
 // The row of kind k, two hexadecimal digits each for its class and the roles of its words 1 to 3. A `match`, as the compiler would write a `const` array to the
-// stack at each use.
-fn row_of(k: usize) -> u32
+// stack at each use. Where several of a record's columns are wanted, its row is looked up once.
+pub fn row_of(k: usize) -> u32
     ensures { λ r. ⌜ unpacked r ≡ layout k ⌝ }
 {
     match k {
@@ -39,32 +39,39 @@ fn row_of(k: usize) -> u32
     }
 }
 
+// The class that a row has.
+pub fn class_in(row: u32) -> u8
+    ensures { λ r. ⌜ r ≡ unpacked row .class ⌝ }
+{
+    (row / 0x1000000) as u8
+}
+
+// The role of word 1 that a row has.
+pub fn first_in(row: u32) -> u8
+    ensures { λ r. ⌜ r ≡ unpacked row .first ⌝ }
+{
+    (row / 0x10000 % 0x100) as u8
+}
+
+// The role of word 2.
+pub fn second_in(row: u32) -> u8
+    ensures { λ r. ⌜ r ≡ unpacked row .second ⌝ }
+{
+    (row / 0x100 % 0x100) as u8
+}
+
+// The role of word 3.
+pub fn third_in(row: u32) -> u8
+    ensures { λ r. ⌜ r ≡ unpacked row .third ⌝ }
+{
+    (row % 0x100) as u8
+}
+
 // The class of a record of kind k.
 pub fn class_of(k: usize) -> u8
     ensures { λ r. ⌜ r ≡ class k ⌝ }
 {
-    (row_of(k) / 0x1000000) as u8
-}
-
-// The role of word 1 of a record of kind k.
-fn first_role(k: usize) -> u8
-    ensures { λ r. ⌜ r ≡ layout k .first ⌝ }
-{
-    (row_of(k) / 0x10000 % 0x100) as u8
-}
-
-// The role of word 2 of a record of kind k.
-fn second_role(k: usize) -> u8
-    ensures { λ r. ⌜ r ≡ layout k .second ⌝ }
-{
-    (row_of(k) / 0x100 % 0x100) as u8
-}
-
-// The role of word 3 of a record of kind k.
-fn third_role(k: usize) -> u8
-    ensures { λ r. ⌜ r ≡ layout k .third ⌝ }
-{
-    (row_of(k) % 0x100) as u8
+    class_in(row_of(k))
 }
 
 // The role of word w of a record of kind k.
@@ -72,13 +79,13 @@ pub fn role_of(k: usize, w: u8) -> u8
     ensures { λ r. ⌜ r ≡ role k w ⌝ }
 {
     if w == 1 {
-        return first_role(k);
+        return first_in(row_of(k));
     }
     if w == 2 {
-        return second_role(k);
+        return second_in(row_of(k));
     }
     if w == 3 {
-        return third_role(k);
+        return third_in(row_of(k));
     }
     0
 }
