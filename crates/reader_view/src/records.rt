@@ -2,7 +2,7 @@
 use crate::Record;
 use reader::words;
 ghost use mathlib.Core.Path.{_≡_};
-ghost use Prim.Native.Nat.{_+_, _≤_};
+ghost use Prim.Native.Nat.{_+_, _*_, _≤_};
 ghost use lib.ListN.{length};
 ghost use Rattle.reader.specs.Words.{le32, wordFrom, wordOf, word};
 ghost use Rattle.reader_view.specs.Records.{RecordIs};
@@ -33,13 +33,11 @@ fn record_past(s: &[u8], i: usize) -> Record
     }
 }
 
-// Record i of one file.
-fn record_in(s: &[u8], i: usize) -> Record
+// Record i of one file that has it whole.
+fn record_whole(s: &[u8], i: usize) -> Record
+    requires { ⌜ 16 * i + 16 ≤ length (now s) ⌝ }
     ensures { λ r. ⌜ RecordIs (wordOf (now (s .entry))) i r ⌝ }
 {
-    if s.len() / 16 <= i {
-        return record_past(s, i);
-    }
     let at = 16 * i;
     Record {
         kind: word_from(s, at),
@@ -49,12 +47,19 @@ fn record_in(s: &[u8], i: usize) -> Record
     }
 }
 
-// Record i of two files.
+// Record i of two files. `record_past` is large and called at two places: so the compiler leaves it a call, and what reads a whole record is small enough to stand
+// in its callers.
 pub fn record(obligation: &[u8], second: &[u8], m: usize, i: usize) -> Record
     ensures { λ r. ⌜ RecordIs (word (now (obligation .entry)) (now (second .entry)) m) i r ⌝ }
 {
     if m < i {
-        return record_in(second, i - m);
+        if second.len() / 16 <= i - m {
+            return record_past(second, i - m);
+        }
+        return record_whole(second, i - m);
     }
-    record_in(obligation, i)
+    if obligation.len() / 16 <= i {
+        return record_past(obligation, i);
+    }
+    record_whole(obligation, i)
 }

@@ -1,15 +1,11 @@
 use borrow.Author.Needs.{needs}
 use Rattle.reader_view.specs.Records.{whole-is}
-use Rattle.reader_view.proofs.records.record_in.Statement.{statement}
-use Rattle.reader_view.proofs.records.record_in.Tie as tie
+use Rattle.reader_view.proofs.records.record_whole.Statement.{statement}
+use Rattle.reader_view.proofs.records.record_whole.Tie as tie
 
-pub record-in-spec : {M : Type 1} → statement M
-record-in-spec = tie.close (tie.spec
-    -- record-past-requires: if1; args
-    (λ c κs. search needs)
-    -- returns: record-past; 1 if1; args
-    (λ c. search needs)
-    -- mul-at: if1; args
+pub record-whole-spec : {M : Type 1} → statement M
+record-whole-spec = tie.close (tie.spec
+    -- mul-at: args
     (λ c. search needs)
     -- word-from-requires
     (λ c κs. search needs)
@@ -25,5 +21,5 @@ record-in-spec = tie.close (tie.spec
     (λ c. search needs)
     -- word-from-requires-4
     (λ c κs. search needs)
-    -- returns-2: word-from4; word-from3; word-from2; word-from; if1; args
+    -- returns: word-from4; word-from3; word-from2; word-from; args
     (λ c. search whole-is))
