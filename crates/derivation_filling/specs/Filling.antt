@@ -14,7 +14,9 @@ use Rattle.reader.specs.TreeLaws.{child-below}
 use Rattle.reader_equality.specs.declared.Key.{Key}
 use Rattle.reader_equality.specs.Tables.{Zeros}
 use Rattle.reader_equality.specs.Least.{leastOf}
-use Rattle.reader_equality.specs.Keys.{partAt, partEntry, keyFrom, part-below}
+use Rattle.reader_view.specs.declared.Record.{Record}
+use Rattle.reader_view.specs.Records.{RecordIs}
+use Rattle.reader_equality.specs.Keys.{partAt, partIn, partEntry, keyFrom, part-below, part-in, part-in-below, part-child}
 use Rattle.reader_slots.specs.Slots.{Placed, Put, Entered, placed-none, placed-next, placed-set, entered-none, entered-next, put-number, put-entered}
 use Rattle.derivation_rules.specs.Erase.{bareTree}
 use Rattle.derivation_trees.specs.Erased.{Plain, bare-zero, bare-false, bare-true, bare-not, bare-all, bare-plain}
@@ -170,12 +172,13 @@ module _ (rd : Reader) (keys slots : List ℕ) (i k : ℕ) (p : 0 < i) (ek : k �
           entered = put-entered (keyFrom rd false keys) (Own rd) (bareTree rd) i r slots after key-f f-key (λ x own. own .least) (own-least rd i p plain) (own-positive rd i p plain) (f .entered) put;
         }
 
--- a part of record i has an entry, far from wrapping
-module _ (rd : Reader) (i w x : ℕ) (p : 0 < i) (ex : x ≡ child rd i w) where
-  pub child-in : (size : ℕ) → i ≤ size → x < size
-  child-in size h = omega (arith, child-below rd i w p)
+-- the part that the code has of the words v of record i
+pub part-is : (rd : Reader) (i : ℕ) (v : Record) (w x : ℕ) → RecordIs rd i v → w < 4 → x ≡ partIn true i v w → x ≡ child rd i w
+part-is rd i v w x e low ex = ex ∙ part-in rd i v e true w low ∙ part-child rd i w
 
-  pub child-small : (keys slots : List ℕ) (y : ℕ) → i < 262143 → Filling rd keys slots i → y ≡ getD keys x 0 → y + 262144 < 18446744073709551616
-  child-small keys slots y small f ey =
-      let low : x < i = omega (arith, child-below rd i w p) in
-      omega (arith, key-small rd (x + 1) (getD keys x 0) (bareTree rd x) (omega arith) (f .keyed .holds x low))
+-- the key of a part is far from wrapping
+pub part-small : (rd : Reader) (keys slots : List ℕ) (i : ℕ) (v : Record) (w x y : ℕ) → 0 < i → x ≡ partIn true i v w → i < 262143 → Filling rd keys slots i → y ≡ getD keys x 0 →
+    y + 262144 < 18446744073709551616
+part-small rd keys slots i v w x y p ex small f ey =
+    let low : x < i = omega (arith, part-in-below true i v w p) in
+    omega (arith, key-small rd (x + 1) (getD keys x 0) (bareTree rd x) (omega arith) (f .keyed .holds x low))

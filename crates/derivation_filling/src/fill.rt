@@ -1,8 +1,8 @@
 // Fills the table of keys: records rising, each key from those of smaller records.
-use reader::trees;
-use reader::words;
+use reader_equality::keys::part_of;
 use reader_equality::tables;
 use reader_slots::slots;
+use reader_view::views;
 ghost use Prim.Native.Nat.{_+_, _*_, _<_, _≤_};
 ghost use lib.ListN.{length};
 ghost use Rattle.reader.specs.Words.{word};
@@ -22,22 +22,22 @@ fn record_key(
     requires { ⌜ (0 < i) × (i ≤ length (now keys)) × (i < 262143) × (4096 + 2 * i ≤ length (now slots)) × Filling (word (now obligation) (now second) m) (now keys) (now slots) i ⌝ }
     ensures { λ r. ⌜ Made (word (now (obligation .entry)) (now (second .entry)) m) (now (keys .entry)) (now (slots .exit)) i r ⌝ }
 {
-    let k = words::word_at(obligation, second, m, i, 0);
-    if k == 14 {
+    let x = views::record_of(obligation, second, m, i);
+    if x.kind == 14 {
         return 1;
     }
-    if k == 15 {
+    if x.kind == 15 {
         return 262145;
     }
-    if k == 18 {
-        let x = trees::child_at(obligation, second, m, i, 1);
-        return tables::entry(keys, x) + 262144;
+    if x.kind == 18 {
+        let part = part_of(true, i, x, 1);
+        return tables::entry(keys, part) + 262144;
     }
-    if k == 22 {
-        let x = trees::child_at(obligation, second, m, i, 2);
-        return tables::entry(keys, x);
+    if x.kind == 22 {
+        let part = part_of(true, i, x, 2);
+        return tables::entry(keys, part);
     }
-    slots::place(obligation, second, m, false, keys, slots, i) + 1
+    slots::place(obligation, second, m, false, keys, slots, i, x) + 1
 }
 
 // Fills the table with the keys of all its records; past the end of the files a record reads as zeros. The slots are scratch: zeros before, and

@@ -98,7 +98,7 @@ entry-is : (rd : Reader) (e i : ℕ) (types : Bool) → e / 2 ≡ i → isOdd e 
 unfolding entryReach
 entry-is rd e i types h s = rw (h, s) refl
 
-entry-of : (rd : Reader) (types : Bool) (i : ℕ) → entryReach rd (entryOf types i) ≡ reach types (tree rd i)
+pub entry-of : (rd : Reader) (types : Bool) (i : ℕ) → entryReach rd (entryOf types i) ≡ reach types (tree rd i)
 unfolding entryOf ifTrue isOdd
 entry-of rd true i = entry-is rd (2 * i + 1) i true (omega arith) (eq-eqb ((2 * i + 1) % 2) 1 (omega arith))
 entry-of rd false i = entry-is rd (2 * i) i false (omega arith) (ne-eqb (2 * i % 2) 1 (λ z. omega arith))
@@ -148,11 +148,6 @@ reached-more rd reaches e v p t q = record { holds = λ j h. go j h (ltb j e) re
 
 pub reached-end : (rd : Reader) (reaches : List ℕ) (e n : ℕ) → n ≤ e → Reached rd reaches e → Reached rd reaches n
 reached-end rd reaches e n h t = record { holds = λ j p. t .holds j (omega arith) }
-
--- entry e, by the recursion over records
-pub entry-made : (rd : Reader) (e r : ℕ) → r ≡ reach (eqb (e % 2) 1) (tree rd (e / 2)) → r ≡ entryReach rd e
-unfolding entryReach isOdd
-entry-made rd e r h = h
 
 -- The ways out of the tests.
 pub index-below : (rd : Reader) (i d r : ℕ) → r ≡ reach false (tree rd i) → leb r d ≡ indicesBelow d (tree rd i)

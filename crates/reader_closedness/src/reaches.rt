@@ -42,7 +42,7 @@ fn index_at(obligation: &[u8], second: &[u8], m: usize, i: usize) -> usize
 }
 
 // The kind of a variable.
-fn variable(types: bool) -> usize
+pub fn variable(types: bool) -> usize
     ensures { λ r. ⌜ r ≡ variable types ⌝ }
 {
     if types { 6 } else { 9 }
@@ -67,7 +67,7 @@ pub fn own_reach(
 }
 
 // What the table says of record i.
-fn entry_of(reaches: &[usize], types: bool, i: usize) -> usize
+pub fn entry_of(reaches: &[usize], types: bool, i: usize) -> usize
     requires { ⌜ 2 * i + 1 < length (now reaches) ⌝ }
     ensures { λ r. ⌜ r ≡ getD (now (reaches .entry)) (entryOf types i) 0 ⌝ }
 {
@@ -77,8 +77,8 @@ fn entry_of(reaches: &[usize], types: bool, i: usize) -> usize
     tables::entry(reaches, 2 * i)
 }
 
-// How far part a reaches: most often the table has it, and no call is made.
-fn part_reach(
+// How far record a reaches: most often the table has it, and no call is made.
+pub fn known_reach(
     obligation: &[u8],
     second: &[u8],
     m: usize,
@@ -120,8 +120,8 @@ pub fn reach_at(
     let a = part_of(true, i, v, 1);
     let b = part_of(true, i, v, 2);
     let c = part_of(true, i, v, 3);
-    let x = part_reach(obligation, second, m, reaches, n, types, a);
-    let y = part_reach(obligation, second, m, reaches, n, types, b);
-    let z = part_reach(obligation, second, m, reaches, n, types, c);
+    let x = known_reach(obligation, second, m, reaches, n, types, a);
+    let y = known_reach(obligation, second, m, reaches, n, types, b);
+    let z = known_reach(obligation, second, m, reaches, n, types, c);
     larger(own, larger(x, larger(under(types, v.kind, y), z)))
 }

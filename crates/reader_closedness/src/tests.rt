@@ -1,5 +1,5 @@
 // Closedness of any record: its reach, compared.
-use crate::reaches::reach_at;
+use crate::reaches::known_reach;
 ghost use mathlib.Core.Path.{_≡_};
 ghost use lib.ListN.{length};
 ghost use Rattle.reader.specs.Words.{word};
@@ -19,7 +19,7 @@ pub fn indices_below(
     requires { ⌜ Reached (word (now obligation) (now second) m) (now reaches) (length (now reaches)) ⌝ }
     ensures { λ r. ⌜ r ≡ indicesBelow d (tree (word (now (obligation .entry)) (now (second .entry)) m) i) ⌝ }
 {
-    reach_at(obligation, second, m, reaches, reaches.len() / 2, false, i) <= d
+    known_reach(obligation, second, m, reaches, reaches.len() / 2, false, i) <= d
 }
 
 // Is every type variable of record i below p?
@@ -34,7 +34,7 @@ fn types_below(
     requires { ⌜ Reached (word (now obligation) (now second) m) (now reaches) (length (now reaches)) ⌝ }
     ensures { λ r. ⌜ r ≡ typesBelow p (tree (word (now (obligation .entry)) (now (second .entry)) m) i) ⌝ }
 {
-    reach_at(obligation, second, m, reaches, reaches.len() / 2, true, i) <= p
+    known_reach(obligation, second, m, reaches, reaches.len() / 2, true, i) <= p
 }
 
 // Has record i no unbound index and no type variable?

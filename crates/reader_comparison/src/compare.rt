@@ -1,5 +1,5 @@
 // Comparison of records: kinds and atoms, and then the parts, each a smaller record. A table in front of the recursion remembers what was found: of
-// the records below n it says the same where they are equal. Types may be left out.
+// the records below n it says the same where they are equal.
 use reader_equality::keys;
 use reader_equality::tables;
 use reader_view::Record;
@@ -8,8 +8,7 @@ ghost use mathlib.Core.Path.{_≡_};
 ghost use Prim.Native.Nat.{_<_, _≤_};
 ghost use lib.ListN.{length};
 ghost use Rattle.reader.specs.Words.{word};
-ghost use Rattle.reader_view.specs.Records.{RecordIs};
-ghost use Rattle.reader_comparison.specs.Compare.{hasBoth, sameFrom, samePart, sameRecords};
+ghost use Rattle.reader_comparison.specs.Compare.{hasBoth, sameFrom, sameRecords};
 
 // Has the table both records?
 fn has_both(n: usize, i: usize, j: usize) -> bool
@@ -26,19 +25,18 @@ fn same_part(
     obligation: &[u8],
     second: &[u8],
     m: usize,
-    types: bool,
     table: &[usize],
     n: usize,
     a: usize,
     b: usize,
 ) -> bool
     requires { ⌜ n ≤ length (now table) ⌝ }
-    ensures { λ r. ⌜ r ≡ sameFrom (word (now (obligation .entry)) (now (second .entry)) m) types (now (table .entry)) n a b ⌝ }
+    ensures { λ r. ⌜ r ≡ sameFrom (word (now (obligation .entry)) (now (second .entry)) m) (now (table .entry)) n a b ⌝ }
 {
     if a == b {
         return true;
     }
-    same_at(obligation, second, m, types, table, n, a, b)
+    same_at(obligation, second, m, table, n, a, b)
 }
 
 // Have records i and j, neither of them 0, one kind, one atom and equal parts? Each is fetched once.
@@ -46,14 +44,13 @@ fn same_records(
     obligation: &[u8],
     second: &[u8],
     m: usize,
-    types: bool,
     table: &[usize],
     n: usize,
     i: usize,
     j: usize,
 ) -> bool
     requires { ⌜ (0 < i) × (n ≤ length (now table)) ⌝ }
-    ensures { λ r. ⌜ r ≡ sameRecords (word (now (obligation .entry)) (now (second .entry)) m) types (now (table .entry)) n i j ⌝ }
+    ensures { λ r. ⌜ r ≡ sameRecords (word (now (obligation .entry)) (now (second .entry)) m) (now (table .entry)) n i j ⌝ }
 {
     let x = views::record_of(obligation, second, m, i);
     let y = views::record_of(obligation, second, m, j);
@@ -63,19 +60,19 @@ fn same_records(
     if keys::atom_of(i, x) != keys::atom_of(j, y) {
         return false;
     }
-    let a = keys::part_of(types, i, x, 1);
-    let b = keys::part_of(types, j, y, 1);
-    if !same_part(obligation, second, m, types, table, n, a, b) {
+    let a = keys::part_of(true, i, x, 1);
+    let b = keys::part_of(true, j, y, 1);
+    if !same_part(obligation, second, m, table, n, a, b) {
         return false;
     }
-    let c = keys::part_of(types, i, x, 2);
-    let d = keys::part_of(types, j, y, 2);
-    if !same_part(obligation, second, m, types, table, n, c, d) {
+    let c = keys::part_of(true, i, x, 2);
+    let d = keys::part_of(true, j, y, 2);
+    if !same_part(obligation, second, m, table, n, c, d) {
         return false;
     }
-    let e = keys::part_of(types, i, x, 3);
-    let f = keys::part_of(types, j, y, 3);
-    same_part(obligation, second, m, types, table, n, e, f)
+    let e = keys::part_of(true, i, x, 3);
+    let f = keys::part_of(true, j, y, 3);
+    same_part(obligation, second, m, table, n, e, f)
 }
 
 // Are records i and j equal?
@@ -83,14 +80,13 @@ pub fn same_at(
     obligation: &[u8],
     second: &[u8],
     m: usize,
-    types: bool,
     table: &[usize],
     n: usize,
     i: usize,
     j: usize,
 ) -> bool
     requires { ⌜ n ≤ length (now table) ⌝ }
-    ensures { λ r. ⌜ r ≡ sameFrom (word (now (obligation .entry)) (now (second .entry)) m) types (now (table .entry)) n i j ⌝ }
+    ensures { λ r. ⌜ r ≡ sameFrom (word (now (obligation .entry)) (now (second .entry)) m) (now (table .entry)) n i j ⌝ }
 {
     if i == j {
         return true;
@@ -104,5 +100,5 @@ pub fn same_at(
     if j == 0 {
         return false;
     }
-    same_records(obligation, second, m, types, table, n, i, j)
+    same_records(obligation, second, m, table, n, i, j)
 }

@@ -28,5 +28,5 @@ pub fn same_at(
     requires { ⌜ Numbered (word (now obligation) (now second) m) (now table) (length (now table)) ⌝ }
     ensures { λ r. ⌜ r ≡ same (tree (word (now (obligation .entry)) (now (second .entry)) m) i) (tree (word (now (obligation .entry)) (now (second .entry)) m) j) ⌝ }
 {
-    compare::same_at(obligation, second, m, true, table, table.len(), i, j)
+    compare::same_at(obligation, second, m, table, table.len(), i, j)
 }

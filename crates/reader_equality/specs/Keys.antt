@@ -8,7 +8,7 @@ use lib.Dec.{eqb, ltb, lit<}
 use lib.ListN.{length, getD, set}
 use lib.Seq.{getD-set-other}
 use native.Mathlib.Omega.{arith}
-use borrow.Author.Tests.{eqb-true, eq-eqb, ltb-true, lt-ltb, le-ltb, not-true, not-false}
+use borrow.Author.Tests.{eqb-true, eq-eqb, ne-eqb, ltb-true, lt-ltb, le-ltb, not-true, not-false}
 use Rattle.reader_equality.specs.declared.Key.{Key}
 use Rattle.reader_equality.specs.Least.{least, least-equal, least-one, Numbered}
 use Rattle.reader.specs.Words.{Reader}
@@ -176,21 +176,6 @@ module _ (rd : Reader) (i : ℕ) (x : Record) (e : RecordIs rd i x) where
   unfolding partIn partAt lower roleAt
   part-in types w h = rw (word-in rd i x e w h, e .kind-is) refl
 
--- The ways out of `atom_of`.
-module _ (i : ℕ) (x : Record) (s : Bool) (es : s ≡ isSymbol (x .kind)) where
-  pub atom-symbol : s ≡ true → i ≡ atomIn i x
-  unfolding atomIn ifTrue
-  atom-symbol h = simp (atomIn, ifTrue, ← es, h)
-
-  module _ (no : s ≡ false) (q : ℕ) (eq : q ≡ role (x .kind) 1) (t : Bool) (et : t ≡ isNumber q) where
-    pub atom-number : t ≡ true → x .a ≡ atomIn i x
-    unfolding atomIn ifTrue
-    atom-number h = simp (atomIn, ifTrue, ← es, no, ← eq, ← et, h)
-
-    pub atom-none : t ≡ false → 0 ≡ atomIn i x
-    unfolding atomIn ifTrue
-    atom-none h = simp (atomIn, ifTrue, ← es, no, ← eq, ← et, h)
-
 -- The ways out of `part_of`.
 module _ (types : Bool) (i : ℕ) (x : Record) (w q : ℕ) (eq : q ≡ role (x .kind) w) (t : Bool) (et : t ≡ isPart types q) where
   pub part-other : not t ≡ true → 0 ≡ partIn types i x w
@@ -240,10 +225,21 @@ pub entry-is : (rd : Reader) (types : Bool) (table : List ℕ) (i w x v : ℕ) �
 unfolding partEntry
 entry-is rd types table i w x v e h = rw (← e) h
 
--- the key that the code puts together
-pub key-is : (rd : Reader) (types : Bool) (table : List ℕ) (i : ℕ) (x : Record) (p a b c : ℕ) → RecordIs rd i x → p ≡ atomIn i x → a ≡ getD table (partIn types i x 1) 0 →
-    b ≡ getD table (partIn types i x 2) 0 → c ≡ getD table (partIn types i x 3) 0 → key (x .kind) p a b c ≡ keyFrom rd types table i
-unfolding keyFrom partEntry
-key-is rd types table i x p a b c e ep ea eb ec =
+-- the key by the record's words
+unfoldable pub keyIn : Bool → List ℕ → ℕ → Record → Key
+keyIn types table i x = key (x .kind) (atomIn i x) (getD table (partIn types i x 1) 0) (getD table (partIn types i x 2) 0) (getD table (partIn types i x 3) 0)
+
+pub key-in : (rd : Reader) (types : Bool) (table : List ℕ) (i : ℕ) (x : Record) → RecordIs rd i x → keyIn types table i x ≡ keyFrom rd types table i
+unfolding keyIn keyFrom partEntry
+key-in rd types table i x e =
     let part : (w : ℕ) → w < 4 → partIn types i x w ≡ partAt rd types i w = part-in rd i x e types in
-    rw (ep, ea, eb, ec, atom-in rd i x e, part 1 (lit< tt), part 2 (lit< tt), part 3 (lit< tt), e .kind-is)
+    rw (atom-in rd i x e, part 1 (lit< tt), part 2 (lit< tt), part 3 (lit< tt), e .kind-is) refl
+
+-- The ways out of `has_key`, which has the words x of record i.
+module _ (types : Bool) (table : List ℕ) (i : ℕ) (x : Record) (l : Key) where
+  pub other-kind : (x .kind ≡ l .kind → ⊥) → false ≡ sameKey (keyIn types table i x) l
+  unfolding sameKey keyIn ifEq
+  other-kind h = simp (ifEq, ne-eqb (x .kind) (l .kind) h)
+
+  pub same-kind : (k : Key) → k ≡ keyIn types table i x → (r : Bool) → r ≡ sameKey k l → r ≡ sameKey (keyIn types table i x) l
+  same-kind k ek r e = rw (← ek) e

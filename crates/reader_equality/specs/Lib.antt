@@ -1,3 +1,4 @@
 pub mod Tables
 pub mod Least
 pub mod Keys
+pub mod Shapes

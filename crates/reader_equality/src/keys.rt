@@ -1,5 +1,6 @@
 // The key of a record, from a table of the smaller records; where the search for a key starts and how it goes on. Types may be left out.
 use crate::Key;
+use crate::shapes;
 use crate::tables;
 use reader::kinds;
 use reader::trees;
@@ -7,21 +8,16 @@ use reader_view::Record;
 use reader_view::views;
 ghost use mathlib.Core.Path.{_≡_};
 ghost use Prim.Native.Nat.{_<_, _≤_};
-ghost use lib.ListN.{length, getD};
+ghost use lib.ListN.{length};
 ghost use Rattle.reader.specs.Words.{word};
-ghost use Rattle.reader_equality.specs.Keys.{isPart, partAt, partEntry, atomIn, partIn, keyFrom, bucketOf, sideOf, turned, sameKey};
+ghost use Rattle.reader_equality.specs.Keys.{isPart, partAt, partEntry, atomIn, partIn, keyIn, bucketOf, sideOf, turned, sameKey};
+ghost use Rattle.reader_equality.specs.Shapes.{shapeOf};
 
 // What tells record i, whose words are x, from others of its kind.
 pub fn atom_of(i: usize, x: Record) -> usize
     ensures { λ r. ⌜ r ≡ atomIn i x ⌝ }
 {
-    if kinds::is_symbol(x.kind) {
-        return i;
-    }
-    if kinds::is_number(kinds::role_of(x.kind, 1)) {
-        return x.a;
-    }
-    0
+    shapes::atom_by(shapes::shape_of(x.kind), i, x)
 }
 
 // Is a word of this role a part of the tree? Where types do not count, a type or a chain of types is none.
@@ -88,34 +84,30 @@ pub fn part_of(types: bool, i: usize, x: Record, w: u8) -> usize
     if a < i { a } else { 0 }
 }
 
-// What the table says of that part.
-fn entry_of(types: bool, table: &[usize], i: usize, x: Record, w: u8) -> usize
-    requires { ⌜ (0 < i) × (i ≤ length (now table)) ⌝ }
-    ensures { λ r. ⌜ r ≡ getD (now (table .entry)) (partIn types i x w) 0 ⌝ }
+// The key of record i, whose words are x, by its shape.
+pub fn key_in(types: bool, table: &[usize], shape: u32, i: usize, x: Record) -> Key
+    requires { ⌜ (shape ≡ shapeOf (x .kind)) × (0 < i) × (i ≤ length (now table)) ⌝ }
+    ensures { λ r. ⌜ r ≡ keyIn types (now (table .entry)) i x ⌝ }
 {
-    tables::entry(table, part_of(types, i, x, w))
-}
-
-// The key of record i.
-pub fn key_at(
-    obligation: &[u8],
-    second: &[u8],
-    m: usize,
-    types: bool,
-    table: &[usize],
-    i: usize,
-) -> Key
-    requires { ⌜ (0 < i) × (i ≤ length (now table)) ⌝ }
-    ensures { λ r. ⌜ r ≡ keyFrom (word (now (obligation .entry)) (now (second .entry)) m) types (now (table .entry)) i ⌝ }
-{
-    let x = views::record_of(obligation, second, m, i);
+    let parts = shapes::parts_by(types, shape, i, x);
     Key {
         kind: x.kind,
-        atom: atom_of(i, x),
-        first: entry_of(types, table, i, x, 1),
-        second: entry_of(types, table, i, x, 2),
-        third: entry_of(types, table, i, x, 3),
+        atom: shapes::atom_by(shape, i, x),
+        first: tables::entry(table, parts.first),
+        second: tables::entry(table, parts.second),
+        third: tables::entry(table, parts.third),
     }
+}
+
+// Has record i, whose words are x, this key? Where it has the kind, it has the shape.
+pub fn has_key(types: bool, table: &[usize], shape: u32, i: usize, x: Record, key: Key) -> bool
+    requires { ⌜ (shape ≡ shapeOf (key .kind)) × (0 < i) × (i ≤ length (now table)) ⌝ }
+    ensures { λ r. ⌜ r ≡ sameKey (keyIn types (now (table .entry)) i x) key ⌝ }
+{
+    if x.kind != key.kind {
+        return false;
+    }
+    same_key(key_in(types, table, shape, i, x), key)
 }
 
 // Are two keys equal?

@@ -1,5 +1,6 @@
 // The numbering of all records: equal trees share a number, the least record that has the tree.
 use crate::slots;
+use reader_view::views;
 ghost use mathlib.Core.Path.{_≡_};
 ghost use Prim.Native.Nat.{_+_, _*_, _≤_};
 ghost use lib.ListN.{length};
@@ -25,7 +26,8 @@ pub fn number_all(
     table[0] = 0;
     let mut i: usize = 1;
     while i < table.len() {
-        table[i] = slots::place(obligation, second, m, true, table, slots, i);
+        let x = views::record_of(obligation, second, m, i);
+        table[i] = slots::place(obligation, second, m, true, table, slots, i, x);
         i += 1;
     }
     slots::clear(slots);

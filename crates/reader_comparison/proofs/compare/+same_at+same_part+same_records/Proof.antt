@@ -25,13 +25,13 @@ use Rattle.reader_comparison.proofs.compare.+same_at+same_part+same_rec
 use Rattle.reader_comparison.proofs.compare.+same_at+same_part+same_records.Tie.{close}
 
 abbrev μ-same-at : Measures 3 same-at-kinds.ps ℕ
-μ-same-at κs a = 3 * a .1 .1 .1 .1 .1 .1 .0 + 2
+μ-same-at κs a = 3 * a .1 .1 .1 .1 .1 .0 + 2
 
 abbrev μ-same-part : Measures 3 same-part-kinds.ps ℕ
-μ-same-part κs a = 3 * a .1 .1 .1 .1 .1 .1 .0 + 3
+μ-same-part κs a = 3 * a .1 .1 .1 .1 .1 .0 + 3
 
 abbrev μ-same-records : Measures 3 same-records-kinds.ps ℕ
-μ-same-records κs a = 3 * a .1 .1 .1 .1 .1 .1 .0 + 1
+μ-same-records κs a = 3 * a .1 .1 .1 .1 .1 .0 + 1
 
 abbrev same-at-at : ℕ → In 3 same-at-kinds.ps
 same-at-at t = and 3 same-at-kinds.ps (is 3 same-at-kinds.ps μ-same-at t) same-at.Pre
@@ -83,7 +83,7 @@ pub +same-at+same-part+same-records-spec : {M : Type 1} → statement M
     -- same-records-requires: if4; 1 if3; 2 if2; 3 has-both; 4 if1; 8 args
     (λ c κs. (omega arith, (omega arith, c .before .before .before .before .before .before .before .before .pre .1)))
     -- returns-5: same-records; 1 if4; 2 if3; 3 if2; 4 has-both; 5 if1; 9 args
-    (λ c. from-parts _ _ _ _ _ _ (c .before .before .before .before .before .if1 .left) _ (c .before .before .before .before .has-both .ensures)
+    (λ c. from-parts _ _ _ _ _ (c .before .before .before .before .before .if1 .left) _ (c .before .before .before .before .has-both .ensures)
     (c .before .before .before .if2 .left) (c .before .before .if3 .left) (c .before .if4 .left) _ (c .same-records .ensures)))
     (λ t. same-part-lts.spec (same-part-calls t) (same-part-at t) same-part.Post
     -- returns: if1; 4 args
@@ -110,12 +110,12 @@ pub +same-at+same-part+same-records-spec : {M : Type 1} → statement M
     -- part-of-requires-2: part-of; 1 if2; 2 atom-of2; 3 atom-of; 4 if1; 5 struct-known2; 6 struct-known; 7 record-of2; 8 record-of; 12 args
     (λ c κs. search needs)
     -- same-part-requires: part-of2; 1 part-of; 2 if2; 3 atom-of2; 4 atom-of; 5 if1; 6 struct-known2; 7 struct-known; 8 record-of2; 9 record-of; 13 args
-    (λ c κs. let p = c .before .before .before .before .before .before .before .before .before .before .before .before .before .pre in (part-falls _ _ _ _ _ t (p .0) (p .1 .0) (c .before .part-of .ensures), p .1 .1))
+    (λ c κs. let p = c .before .before .before .before .before .before .before .before .before .before .before .before .before .pre in (part-falls _ _ _ _ t (p .0) (p .1 .0) (c .before .part-of .ensures), p .1 .1))
     -- returns-3: if3; 1 same-part; 2 part-of2; 3 part-of; 4 if2; 5 atom-of2; 6 atom-of; 7 if1; 8 struct-known2; 9 struct-known; 10 record-of2; 11 record-of; 15 args
-    (λ c. records-parts _ _ _ _ _ _ _ _ (c .before .before .before .before .before .before .before .before .before .before .before .record-of .ensures)
+    (λ c. records-parts _ _ _ _ _ _ _ (c .before .before .before .before .before .before .before .before .before .before .before .record-of .ensures)
     (c .before .before .before .before .before .before .before .before .before .before .record-of2 .ensures)
     (c .before .before .before .before .before .before .before .if1 .left) _ _ (c .before .before .before .before .before .before .atom-of .ensures)
-    (c .before .before .before .before .before .atom-of2 .ensures) (c .before .before .before .before .if2 .left) _ (both-stop _ _ _ (part-same _ _ _ _ _ _ _ _
+    (c .before .before .before .before .before .atom-of2 .ensures) (c .before .before .before .before .if2 .left) _ (both-stop _ _ _ (part-same _ _ _ _ _ _ _
     (c .before .before .before .before .before .before .before .before .before .before .before .record-of .ensures)
     (c .before .before .before .before .before .before .before .before .before .before .record-of2 .ensures) 1 (lit< tt) _ _ (c .before .before .before .part-of .ensures)
     (c .before .before .part-of2 .ensures) _ (c .before .same-part .ensures)) (c .if3 .taken)))
@@ -125,19 +125,19 @@ pub +same-at+same-part+same-records-spec : {M : Type 1} → statement M
     (λ c κs. search needs)
     -- same-part-requires-2: part-of4; 1 part-of3; 2 if3; 3 same-part; 4 part-of2; 5 part-of; 6 if2; 7 atom-of2; 8 atom-of; 9 if1; 10 struct-known2; 11 struct-known; 12 record-of2; 13 record-of; 17 args
     (λ c κs. let p = c .before .before .before .before .before .before .before .before .before .before .before .before .before .before .before .before .before .pre in
-    (part-falls _ _ _ _ _ t (p .0) (p .1 .0) (c .before .part-of3 .ensures), p .1 .1))
+    (part-falls _ _ _ _ t (p .0) (p .1 .0) (c .before .part-of3 .ensures), p .1 .1))
     -- returns-4: if4; 1 same-part2; 2 part-of4; 3 part-of3; 4 if3; 5 same-part; 6 part-of2; 7 part-of; 8 if2; 9 atom-of2; 10 atom-of; 11 if1; 12 struct-known2; 13 struct-known; 14 record-of2; 15 record-of; 19 args
-    (λ c. records-parts _ _ _ _ _ _ _ _
+    (λ c. records-parts _ _ _ _ _ _ _
     (c .before .before .before .before .before .before .before .before .before .before .before .before .before .before .before .record-of .ensures)
     (c .before .before .before .before .before .before .before .before .before .before .before .before .before .before .record-of2 .ensures)
     (c .before .before .before .before .before .before .before .before .before .before .before .if1 .left) _ _
     (c .before .before .before .before .before .before .before .before .before .before .atom-of .ensures)
     (c .before .before .before .before .before .before .before .before .before .atom-of2 .ensures)
-    (c .before .before .before .before .before .before .before .before .if2 .left) _ (both-go _ _ _ _ (part-same _ _ _ _ _ _ _ _
+    (c .before .before .before .before .before .before .before .before .if2 .left) _ (both-go _ _ _ _ (part-same _ _ _ _ _ _ _
     (c .before .before .before .before .before .before .before .before .before .before .before .before .before .before .before .record-of .ensures)
     (c .before .before .before .before .before .before .before .before .before .before .before .before .before .before .record-of2 .ensures) 1 (lit< tt) _ _
     (c .before .before .before .before .before .before .before .part-of .ensures) (c .before .before .before .before .before .before .part-of2 .ensures) _
-    (c .before .before .before .before .before .same-part .ensures)) (c .before .before .before .before .if3 .left) (both-stop _ _ _ (part-same _ _ _ _ _ _ _ _
+    (c .before .before .before .before .before .same-part .ensures)) (c .before .before .before .before .if3 .left) (both-stop _ _ _ (part-same _ _ _ _ _ _ _
     (c .before .before .before .before .before .before .before .before .before .before .before .before .before .before .before .record-of .ensures)
     (c .before .before .before .before .before .before .before .before .before .before .before .before .before .before .record-of2 .ensures) 2 (lit< tt) _ _
     (c .before .before .before .part-of3 .ensures) (c .before .before .part-of4 .ensures) _ (c .before .same-part2 .ensures)) (c .if4 .taken))))
@@ -149,26 +149,26 @@ pub +same-at+same-part+same-records-spec : {M : Type 1} → statement M
     -- same-part-requires-3: part-of6; 1 part-of5; 2 if4; 3 same-part2; 4 part-of4; 5 part-of3; 6 if3; 7 same-part; 8 part-of2; 9 part-of; 10 if2; 11 atom-of2; 12 atom-of; 13 if1; 14 struct-known2; 15 struct-known;
     -- 16 record-of2; 17 record-of; 21 args
     (λ c κs. let p = c .before .before .before .before .before .before .before .before .before .before .before .before .before .before .before .before .before .before .before .before .before .pre
-    in (part-falls _ _ _ _ _ t (p .0) (p .1 .0) (c .before .part-of5 .ensures), p .1 .1))
+    in (part-falls _ _ _ _ t (p .0) (p .1 .0) (c .before .part-of5 .ensures), p .1 .1))
     -- returns-5: same-part3; 1 part-of6; 2 part-of5; 3 if4; 4 same-part2; 5 part-of4; 6 part-of3; 7 if3; 8 same-part; 9 part-of2; 10 part-of; 11 if2; 12 atom-of2; 13 atom-of; 14 if1; 15 struct-known2; 16 struct-known;
     -- 17 record-of2; 18 record-of; 22 args
-    (λ c. records-parts _ _ _ _ _ _ _ _
+    (λ c. records-parts _ _ _ _ _ _ _
     (c .before .before .before .before .before .before .before .before .before .before .before .before .before .before .before .before .before .before .record-of .ensures)
     (c .before .before .before .before .before .before .before .before .before .before .before .before .before .before .before .before .before .record-of2 .ensures)
     (c .before .before .before .before .before .before .before .before .before .before .before .before .before .before .if1 .left) _ _
     (c .before .before .before .before .before .before .before .before .before .before .before .before .before .atom-of .ensures)
     (c .before .before .before .before .before .before .before .before .before .before .before .before .atom-of2 .ensures)
-    (c .before .before .before .before .before .before .before .before .before .before .before .if2 .left) _ (both-go _ _ _ _ (part-same _ _ _ _ _ _ _ _
+    (c .before .before .before .before .before .before .before .before .before .before .before .if2 .left) _ (both-go _ _ _ _ (part-same _ _ _ _ _ _ _
     (c .before .before .before .before .before .before .before .before .before .before .before .before .before .before .before .before .before .before .record-of .ensures)
     (c .before .before .before .before .before .before .before .before .before .before .before .before .before .before .before .before .before .record-of2 .ensures) 1
     (lit< tt) _ _ (c .before .before .before .before .before .before .before .before .before .before .part-of .ensures)
     (c .before .before .before .before .before .before .before .before .before .part-of2 .ensures) _
     (c .before .before .before .before .before .before .before .before .same-part .ensures)) (c .before .before .before .before .before .before .before .if3 .left)
-    (both-go _ _ _ _ (part-same _ _ _ _ _ _ _ _
+    (both-go _ _ _ _ (part-same _ _ _ _ _ _ _
     (c .before .before .before .before .before .before .before .before .before .before .before .before .before .before .before .before .before .before .record-of .ensures)
     (c .before .before .before .before .before .before .before .before .before .before .before .before .before .before .before .before .before .record-of2 .ensures) 2
     (lit< tt) _ _ (c .before .before .before .before .before .before .part-of3 .ensures) (c .before .before .before .before .before .part-of4 .ensures) _
-    (c .before .before .before .before .same-part2 .ensures)) (c .before .before .before .if4 .left) (part-same _ _ _ _ _ _ _ _
+    (c .before .before .before .before .same-part2 .ensures)) (c .before .before .before .if4 .left) (part-same _ _ _ _ _ _ _
     (c .before .before .before .before .before .before .before .before .before .before .before .before .before .before .before .before .before .before .record-of .ensures)
     (c .before .before .before .before .before .before .before .before .before .before .before .before .before .before .before .before .before .record-of2 .ensures) 3
     (lit< tt) _ _ (c .before .before .part-of5 .ensures) (c .before .part-of6 .ensures) _ (c .same-part3 .ensures))))))

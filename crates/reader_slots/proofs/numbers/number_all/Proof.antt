@@ -42,18 +42,20 @@ number-all-spec = tie.close (tie.spec
       omega
           (arith, length-set t 0 0),
     ))
-    -- place-requires: place-arg2; 1 place-arg; 2 loop-test; 3 loop; 4 if1; 9 args
+    -- record-of-requires: loop-test; 1 loop; 2 if1; 7 args
     (λ c κs. search needs)
-    -- mul-table: 1 slots; 2 place; 3 place-arg2; 4 place-arg; 5 loop-test; 6 loop; 7 if1; 12 args
+    -- place-requires: place-arg2; 1 place-arg; 2 record-of; 3 loop-test; 4 loop; 5 if1; 10 args
+    (λ c κs. search needs)
+    -- mul-table: 1 slots; 2 place; 3 place-arg2; 4 place-arg; 5 record-of; 6 loop-test; 7 loop; 8 if1; 13 args
     (λ c. search needs)
-    -- slice-write-table-2: 1 slots; 2 place; 3 place-arg2; 4 place-arg; 5 loop-test; 6 loop; 7 if1; 12 args
+    -- slice-write-table-2: 1 slots; 2 place; 3 place-arg2; 4 place-arg; 5 record-of; 6 loop-test; 7 loop; 8 if1; 13 args
     (λ c. search needs)
-    -- add-i: 1 slots; 2 place; 3 place-arg2; 4 place-arg; 5 loop-test; 6 loop; 7 if1; 12 args
+    -- add-i: 1 slots; 2 place; 3 place-arg2; 4 place-arg; 5 record-of; 6 loop-test; 7 loop; 8 if1; 13 args
     (λ c. search needs)
-    -- loop-less: 1 slots; 2 place; 3 place-arg2; 4 place-arg; 5 loop-test; 6 loop; 7 if1; 12 args
+    -- loop-less: 1 slots; 2 place; 3 place-arg2; 4 place-arg; 5 record-of; 6 loop-test; 7 loop; 8 if1; 13 args
     (λ c. omega arith)
-    -- loop-again: 1 slots; 2 place; 3 place-arg2; 4 place-arg; 5 loop-test; 6 loop; 7 if1; 12 args
-    (λ c. let l = c .before .before .before .before .before .before .loop in let q = c .before .before .place .ensures in let long : length (set (l .table) (l .i) (c .before .before .place .result)) ≡
+    -- loop-again: 1 slots; 2 place; 3 place-arg2; 4 place-arg; 5 record-of; 6 loop-test; 7 loop; 8 if1; 13 args
+    (λ c. let l = c .before .before .before .before .before .before .before .loop in let q = c .before .before .place .ensures in let long : length (set (l .table) (l .i) (c .before .before .place .result)) ≡
     length (l .table) = length-set (l .table) (l .i) (c .before .before .place .result) in (
       omega arith,
       omega arith,
