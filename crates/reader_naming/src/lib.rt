@@ -4,6 +4,7 @@ use reader::Answer;
 use reader::kinds;
 use reader::trees;
 use reader::words;
+use reader_view::views;
 ghost use mathlib.Core.Path.{_≡_};
 ghost use Prim.Native.Nat.{_+_, _-_, _<_, _≤_, min};
 ghost use lib.ListN.{length, getD};
@@ -88,7 +89,8 @@ fn count_node(
     requires { ⌜ (j < length (now named)) × (j < length (now passed)) × (0 < j) × Settled (word (now obligation) (now second) m) (now named) (now passed) ⌝ }
     ensures { λ _. ⌜ Settled (word (now (obligation .entry)) (now (second .entry)) m) (now (named .exit)) (now (passed .exit)) × Counted mode (word (now (obligation .entry)) (now (second .entry)) m) j (now (named .entry)) (now (named .exit)) ⌝ }
 {
-    if kinds::is_rule(mode, words::word_at(obligation, second, m, j, 0)) {
+    let x = views::record_of(obligation, second, m, j);
+    if kinds::is_rule(mode, x.kind) {
         pass_chain(
             obligation,
             second,
@@ -132,7 +134,8 @@ fn count_fault(
     requires { ⌜ i < length (now named) ⌝ }
     ensures { λ r. ⌜ r ≡ countFault mode (word (now (obligation .entry)) (now (second .entry)) m) (now (named .entry)) i ⌝ }
 {
-    if !kinds::is_rule(mode, words::word_at(obligation, second, m, i, 0)) {
+    let x = views::record_of(obligation, second, m, i);
+    if !kinds::is_rule(mode, x.kind) {
         return 0;
     }
     if entry(named, i) == 1 { 0 } else { 12 }

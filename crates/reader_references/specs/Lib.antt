@@ -1,1 +1,3 @@
 pub mod References
+pub mod Rows
+pub mod Items

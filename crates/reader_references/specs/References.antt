@@ -7,34 +7,59 @@ use lib.ListN.{length, getD, List·getD-eq-default}
 use native.Mathlib.Omega.{arith}
 use borrow.Author.Tests.{eq-eqb, ne-eqb, le-ltb, lt-ltb, not-true, not-false}
 use Rattle.reader.specs.Words.{Reader}
-use Rattle.reader.specs.Tests.{both, between, every, ifEq}
+use Rattle.reader.specs.Tests.{both, between, every, ifEq, ifLt}
 use Rattle.reader.specs.TestLaws.{eq-yes, eq-no, lt-yes, lt-no}
 use Rattle.reader.specs.Trees.{lower}
-use Rattle.reader.specs.Kinds.{role, classAt, roleAt}
+use Rattle.reader.specs.Kinds.{class, classAt, roleAt, isKind}
 use Rattle.reader.specs.Chains.{linked, items}
 use Rattle.reader.specs.TreeLaws.{items-zero, items-step}
 use Rattle.reader.specs.ChainLaws.{linked-length, linked-none}
-use Rattle.reader.specs.Records.{inRange, rangeAt, Reference, anyRecord, references, mayBeZero, wantedClass, itemClass, hasClass, itemsHaveClass, refers}
-use Rattle.reader.specs.Records.{refersAt, typesFit, argumentsFit, itemChainsFit}
+use Rattle.reader.specs.Records.{inRange, rangeAt, Reference, anyRecord, references, mayBeZero, wantedClass, itemClass, hasClass, itemsHaveClass}
+use Rattle.reader_view.specs.declared.Record.{Record}
+use Rattle.reader_view.specs.Records.{RecordIs}
+use Rattle.reader.specs.Records.{kindFits, typesFit, argumentsFit, itemChainsFit}
 
--- what a number packs, a hexadecimal digit each: whether the reference may be 0, the class of the record, the class of the items
-unfoldable pub unpacked : ℕ → Reference
-unpacked n = record { zero = eqb (n / 256) 1; class = n / 16 % 16; items = n % 16 }
+-- What a number packs, a hexadecimal digit each: whether the reference may be 0, and the class of the record.
+unfoldable pub zeroIn : ℕ → Bool
+zeroIn n = eqb (n / 16) 1
 
--- the last arm: roles 0 to 5 and past the table's end
-pub reference-none : (r : ℕ) → (6 ≤ r → 18 ≤ r) → anyRecord ≡ getD references r anyRecord
-reference-none zero h = refl
-reference-none (suc zero) h = refl
-reference-none (suc (suc zero)) h = refl
-reference-none (suc (suc (suc zero))) h = refl
-reference-none (suc (suc (suc (suc zero)))) h = refl
-reference-none (suc (suc (suc (suc (suc zero))))) h = refl
-reference-none (suc (suc (suc (suc (suc (suc r)))))) h = sym (List·getD-eq-default references anyRecord (h (omega arith)))
+unfoldable pub classIn : ℕ → ℕ
+classIn n = n % 16
 
--- the class of a record that a function read
-pub class-is : (rd : Reader) (c j k : ℕ) → (c ≡ 0 → ⊥) → k ≡ classAt rd j → eqb k c ≡ hasClass rd c j
-unfolding hasClass
-class-is rd c j k h e = eq-no c 0 true _ (eqb k c) h (rw e refl)
+-- a number packs what a reference in role r must name
+pub record Packed (n r : ℕ) : Type 0 where
+  pub zero : zeroIn n ≡ mayBeZero r
+  pub class : classIn n ≡ wantedClass r
+
+-- by the arm of role k
+pub packed-as : (n k r : ℕ) → zeroIn n ≡ mayBeZero k → classIn n ≡ wantedClass k → r ≡ k → Packed n r
+packed-as n k r z c e = record { zero = rw e z; class = rw e c }
+
+-- by the last arm: roles 0 to 5 and past the table's end
+pub packed-none : (r : ℕ) → (6 ≤ r → 18 ≤ r) → Packed 0 r
+unfolding zeroIn classIn mayBeZero wantedClass
+packed-none r h =
+    let e = reference-none r h in
+    record { zero = ap (λ (x : Reference). x .zero) e; class = ap (λ (x : Reference). x .class) e }
+  where
+    reference-none : (r : ℕ) → (6 ≤ r → 18 ≤ r) → anyRecord ≡ getD references r anyRecord
+    reference-none zero h = refl
+    reference-none (suc zero) h = refl
+    reference-none (suc (suc zero)) h = refl
+    reference-none (suc (suc (suc zero))) h = refl
+    reference-none (suc (suc (suc (suc zero)))) h = refl
+    reference-none (suc (suc (suc (suc (suc zero))))) h = refl
+    reference-none (suc (suc (suc (suc (suc (suc r)))))) h = sym (List·getD-eq-default references anyRecord (h (omega arith)))
+
+-- the kind k of record i
+pub kind-is : (rd : Reader) (mode i k : ℕ) (t : Bool) → k ≡ rd i 0 → t ≡ isKind mode k → t ≡ kindFits mode rd i
+unfolding kindFits
+kind-is rd mode i k t ek e = rw (← ek) e
+
+-- the class k of record j, whose words are x
+pub class-read : (rd : Reader) (c j k : ℕ) (x : Record) → (c ≡ 0 → ⊥) → RecordIs rd j x → k ≡ class (x .kind) → eqb k c ≡ hasClass rd c j
+unfolding hasClass classAt
+class-read rd c j k x h e ek = eq-no c 0 true _ (eqb k c) h (rw (ek, e .kind-is) refl)
 
 -- The loop over a chain: what is left of it gives the answer.
 module _ (rd : Reader) (test : ℕ → Bool) (j at : ℕ) (inv : every test (items rd j) ≡ every test (items rd at)) where
@@ -53,44 +78,74 @@ module _ (rd : Reader) (test : ℕ → Bool) (j at : ℕ) (inv : every test (ite
   unfolding every
   every-end h = rw (inv, h, items-zero rd)
 
--- a reference that is not 0
+-- "reference zero, not smaller or of wrong class", without the items of chains: word a of record i, a reference in role r
 unfoldable pub pointsWell : Reader → ℕ → ℕ → ℕ → Bool
-pointsWell rd i r a = both (ltb a i) (both (hasClass rd (wantedClass r) a) (itemsHaveClass rd (itemClass r) a))
+pointsWell rd i r a = ifEq a 0 (mayBeZero r) (both (ltb a i) (hasClass rd (wantedClass r) a))
 
-module _ (rd : Reader) (i r a : ℕ) where
-  pub points-far : i ≤ a → false ≡ pointsWell rd i r a
+-- the same of a word that may be no reference; of word w of record i; of its three words
+unfoldable pub pointsIn : Reader → ℕ → ℕ → ℕ → Bool
+pointsIn rd i r a = ifLt r 6 true (pointsWell rd i r a)
+
+unfoldable pub pointsAt : Reader → ℕ → ℕ → Bool
+pointsAt rd i w = pointsIn rd i (roleAt rd i w) (rd i w)
+
+unfoldable pub pointsFit : Reader → ℕ → Bool
+pointsFit rd i = both (pointsAt rd i 1) (both (pointsAt rd i 2) (pointsAt rd i 3))
+
+-- the items of the chain that word w of record i names have the class that is asked for; those of its three words
+unfoldable pub itemsAt : Reader → ℕ → ℕ → Bool
+itemsAt rd i w = itemsHaveClass rd (itemClass (roleAt rd i w)) (rd i w)
+
+unfoldable pub itemsFit : Reader → ℕ → Bool
+itemsFit rd i = both (itemsAt rd i 1) (both (itemsAt rd i 2) (itemsAt rd i 3))
+
+-- The ways out of `points_well`: n packs what the role asks for.
+module _ (rd : Reader) (i r a n : ℕ) (e : Packed n r) where
+  pub points-zero : a ≡ 0 → (t : Bool) → t ≡ zeroIn n → t ≡ pointsWell rd i r a
+  unfolding pointsWell
+  points-zero z t h = eq-yes a 0 _ _ t z (h ∙ e .zero)
+
+  pub points-class : (a ≡ 0 → ⊥) → a < i → (c : ℕ) → c ≡ classIn n → (t : Bool) → t ≡ hasClass rd c a → t ≡ pointsWell rd i r a
   unfolding pointsWell both
-  points-far h = simp (pointsWell, both, le-ltb a i h)
+  points-class p below c ec t h = eq-no a 0 _ _ t p (simp (both, lt-ltb a i below, ← e .class, ← ec) h)
 
-  module _ (below : a < i) (c : ℕ) (ec : c ≡ wantedClass r) (t : Bool) (et : t ≡ hasClass rd c a) where
-    pub points-other : not t ≡ true → false ≡ pointsWell rd i r a
-    unfolding pointsWell both
-    points-other h = simp (pointsWell, both, lt-ltb a i below, ← ec, ← et, not-true t h)
+pub points-far : (rd : Reader) (i r a : ℕ) → (a ≡ 0 → ⊥) → i ≤ a → false ≡ pointsWell rd i r a
+unfolding pointsWell both
+points-far rd i r a p h = eq-no a 0 _ _ false p (simp (both, le-ltb a i h))
 
-    pub points-to : not t ≡ false → (d : ℕ) → d ≡ itemClass r → (u : Bool) → u ≡ itemsHaveClass rd d a → u ≡ pointsWell rd i r a
-    unfolding pointsWell both
-    points-to h d ed u eu = simp (pointsWell, both, lt-ltb a i below, ← ec, ← et, not-false t h, ← ed) eu
+-- The ways out of `points_in`.
+module _ (rd : Reader) (i r a : ℕ) where
+  pub points-nothing : r < 6 → true ≡ pointsIn rd i r a
+  unfolding pointsIn
+  points-nothing h = lt-yes r 6 _ _ true h refl
 
-  pub refers-nothing : r < 6 → true ≡ refers rd i r a
-  unfolding refers
-  refers-nothing h = lt-yes r 6 _ _ true h refl
+  pub points-some : 6 ≤ r → (t : Bool) → t ≡ pointsWell rd i r a → t ≡ pointsIn rd i r a
+  unfolding pointsIn
+  points-some h t e = lt-no r 6 _ _ t h e
 
-  pub refers-zero : 6 ≤ r → a ≡ 0 → (t : Bool) → t ≡ mayBeZero r → t ≡ refers rd i r a
-  unfolding refers
-  refers-zero h z t e = lt-no r 6 _ _ t h (eq-yes a 0 _ _ t z e)
+-- word w of record i, in a role that is no reference
+pub points-free : (rd : Reader) (i w q : ℕ) → q < 6 → q ≡ roleAt rd i w → true ≡ pointsAt rd i w
+unfolding pointsAt
+points-free rd i w q h e = rw (← e) (points-nothing rd i q (rd i w) h)
 
-  pub refers-some : 6 ≤ r → (a ≡ 0 → ⊥) → (t : Bool) → t ≡ pointsWell rd i r a → t ≡ refers rd i r a
-  unfolding refers pointsWell
-  refers-some h z t e = lt-no r 6 _ _ t h (eq-no a 0 _ _ t z e)
+-- a word a in the role of a reference is in its range
+pub range-any : (r a : ℕ) → 6 ≤ r → true ≡ inRange r a
+unfolding inRange ifEq
+range-any r a h =
+    simp (inRange, ifEq, ne-eqb r 0 (λ e. omega arith), ne-eqb r 2 (λ e. omega arith), ne-eqb r 3 (λ e. omega arith), ne-eqb r 4 (λ e. omega arith), ne-eqb r 5 (λ e. omega arith))
 
--- A word in its role, by the record's kind and words.
-pub refers-is : (rd : Reader) (i w k q a : ℕ) (t : Bool) → k ≡ rd i 0 → a ≡ rd i w → q ≡ role k w → t ≡ refers rd i q a → t ≡ refersAt rd i w
-unfolding refersAt roleAt
-refers-is rd i w k q a t ek ea eq e = rw (← ek, ← eq, ← ea) e
+-- a word a in its role q, as the record has them
+module _ (rd : Reader) (i w q a : ℕ) (t : Bool) where
+  pub points-is : t ≡ pointsIn rd i q a → q ≡ roleAt rd i w → a ≡ rd i w → t ≡ pointsAt rd i w
+  unfolding pointsAt
+  points-is e eq ea = rw (← eq, ← ea) e
 
-pub range-is : (rd : Reader) (i w k a : ℕ) (t : Bool) → k ≡ rd i 0 → a ≡ rd i w → t ≡ inRange (role k w) a → t ≡ rangeAt rd i w
-unfolding rangeAt roleAt
-range-is rd i w k a t ek ea e = rw (← ek, ← ea) e
+  pub points-here : t ≡ pointsWell rd i q a → 6 ≤ q → q ≡ roleAt rd i w → a ≡ rd i w → t ≡ pointsAt rd i w
+  points-here e h eq ea = points-is (points-some rd i q a h t e) eq ea
+
+  pub range-is : t ≡ inRange q a → q ≡ roleAt rd i w → a ≡ rd i w → t ≡ rangeAt rd i w
+  unfolding rangeAt
+  range-is e eq ea = rw (← eq, ← ea) e
 
 -- chains of types
 pub types-none : (rd : Reader) (c : ℕ) → c ≡ 0 → false ≡ typesFit rd c

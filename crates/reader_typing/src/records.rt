@@ -1,6 +1,5 @@
 // Typing of records, by kind.
 use crate::applications;
-use reader::words;
 use reader_types::types;
 ghost use mathlib.Core.Path.{_≡_};
 ghost use lib.ListN.{length};
@@ -9,7 +8,7 @@ ghost use Rattle.reader_equality.specs.Least.{Numbered};
 ghost use Rattle.reader_equality.specs.Tables.{Zeros};
 ghost use Rattle.reader.specs.Typing.{isTyped};
 
-// Is record i typed as its kind asks? Refusal 10 where it is not. The table `seen` is scratch, zeros before and zeros again.
+// Is record i typed as its kind k asks? Refusal 10 where it is not. The table `seen` is scratch, zeros before and zeros again.
 pub fn is_typed(
     obligation: &[u8],
     second: &[u8],
@@ -17,11 +16,12 @@ pub fn is_typed(
     numbers: &[usize],
     seen: &mut [usize],
     i: usize,
+    k: usize,
 ) -> bool
-    requires { ⌜ Numbered (word (now obligation) (now second) m) (now numbers) (length (now numbers)) × Zeros (now seen) ⌝ }
+    requires { ⌜ (k ≡ word (now obligation) (now second) m i 0) × Numbered (word (now obligation) (now second) m) (now numbers) (length (now numbers)) × Zeros (now seen) ⌝ }
     ensures { λ r. ⌜ (r ≡ isTyped (word (now (obligation .entry)) (now (second .entry)) m) i) × Zeros (now (seen .exit)) ⌝ }
 {
-    match words::word_at(obligation, second, m, i, 0) {
+    match k {
         7 => types::constant_typed(obligation, second, m, i),
         8 => applications::function_typed(obligation, second, m, seen, i),
         10 => types::pair_typed(obligation, second, m, numbers, i),

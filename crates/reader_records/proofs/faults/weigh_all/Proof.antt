@@ -21,20 +21,24 @@ weigh-all-spec = tie.close (tie.spec
     Inv-loop μ-loop
     -- loop-holds: 3 args
     (λ c. (omega arith, omega arith, refl, search weighed-none))
-    -- weigh-requires: weigh-arg; 1 loop-test; 2 loop; 6 args
+    -- record-of-requires: loop-test; 1 loop; 5 args
     (λ c κs. search needs)
-    -- cast-table: weigh; 1 weigh-arg; 2 loop-test; 3 loop; 7 args
+    -- row-of-requires: record-of; 1 loop-test; 2 loop; 6 args
+    (λ c κs. search needs)
+    -- weigh-requires: weigh-arg; 1 row-of; 2 record-of; 3 loop-test; 4 loop; 8 args
+    (λ c κs. search needs)
+    -- cast-table: weigh; 1 weigh-arg; 2 row-of; 3 record-of; 4 loop-test; 5 loop; 9 args
     (λ c. omega (arith, capped-small _ _ (c .weigh .ensures)))
-    -- mul-table: weigh; 1 weigh-arg; 2 loop-test; 3 loop; 7 args
+    -- mul-table: weigh; 1 weigh-arg; 2 row-of; 3 record-of; 4 loop-test; 5 loop; 9 args
     (λ c. search needs)
-    -- slice-write-table: weigh; 1 weigh-arg; 2 loop-test; 3 loop; 7 args
+    -- slice-write-table: weigh; 1 weigh-arg; 2 row-of; 3 record-of; 4 loop-test; 5 loop; 9 args
     (λ c. search needs)
-    -- add-i: weigh; 1 weigh-arg; 2 loop-test; 3 loop; 7 args
+    -- add-i: weigh; 1 weigh-arg; 2 row-of; 3 record-of; 4 loop-test; 5 loop; 9 args
     (λ c. search needs)
-    -- loop-less: weigh; 1 weigh-arg; 2 loop-test; 3 loop; 7 args
+    -- loop-less: weigh; 1 weigh-arg; 2 row-of; 3 record-of; 4 loop-test; 5 loop; 9 args
     (λ c. omega arith)
-    -- loop-again: weigh; 1 weigh-arg; 2 loop-test; 3 loop; 7 args
-    (λ c. let l = c .before .before .before .loop in (omega arith, omega arith, search needs, weighed-more _ _ (l .table) (l .i) _ (omega arith) (l .inv .3) (c .weigh .ensures)))
+    -- loop-again: weigh; 1 weigh-arg; 2 row-of; 3 record-of; 4 loop-test; 5 loop; 9 args
+    (λ c. let l = c .before .before .before .before .before .loop in (omega arith, omega arith, search needs, weighed-more _ _ (l .table) (l .i) _ (omega arith) (l .inv .3) (c .weigh .ensures)))
     -- same-length: loop-test; 1 loop; 5 args
     (λ c. search needs)
     -- returns: loop-test; 1 loop; 5 args

@@ -1,6 +1,7 @@
 use borrow.Author.Needs.{needs}
 use Rattle.reader.specs.TestLaws.{ifs}
 use Rattle.reader.specs.Records.{inRange}
+use Rattle.reader_references.specs.References.{range-any}
 use Rattle.reader_references.proofs.ranges.in_range.Statement.{statement}
 use Rattle.reader_references.proofs.ranges.in_range.Tie as tie
 
@@ -10,14 +11,16 @@ in-range-spec = tie.close (tie.spec
     -- returns: if1; 1 args
     (λ c. search ifs)
     -- returns-2: if2; 1 if1; 2 args
+    (λ c. search range-any)
+    -- returns-3
     (λ c. search ifs)
-    -- returns-3: if3; 1 if2; 2 if1; 3 args
+    -- returns-4
     (λ c. search ifs)
-    -- returns-4: if4; 1 if3; 2 if2; 3 if1; 4 args
+    -- returns-5
     (λ c. search ifs)
-    -- is-between-requires: if5; 1 if4; 2 if3; 3 if2; 4 if1; 5 args
+    -- is-between-requires
     (λ c κs. search needs)
-    -- returns-5: is-between; 1 if5; 2 if4; 3 if3; 4 if2; 5 if1; 6 args
+    -- returns-6: is-between
     (λ c. search ifs)
-    -- returns-6: if5; 1 if4; 2 if3; 3 if2; 4 if1; 5 args
+    -- returns-7
     (λ c. search ifs))

@@ -1,7 +1,7 @@
 use borrow.Author.Needs.{needs}
 use Rattle.reader.specs.TestLaws.{ifs}
 use Rattle.reader.specs.Records.{hasClass}
-use Rattle.reader_references.specs.References.{class-is}
+use Rattle.reader_references.specs.References.{class-read}
 use Rattle.reader_references.proofs.references.has_class.Statement.{statement}
 use Rattle.reader_references.proofs.references.has_class.Tie as tie
 
@@ -10,7 +10,9 @@ unfolding hasClass
 has-class-spec = tie.close (tie.spec
     -- returns: if1; 3 args
     (λ c. search ifs)
-    -- class-at-requires: if1; 3 args
+    -- record-of-requires: if1; 3 args
     (λ c κs. search needs)
-    -- returns-2: class-at; 1 if1; 4 args
-    (λ c. search class-is))
+    -- class-of-requires: record-of; 1 if1; 4 args
+    (λ c κs. search needs)
+    -- returns-2: class-of; 1 record-of; 2 if1; 5 args
+    (λ c. search class-read))

@@ -5,8 +5,6 @@ use Rattle.reader_references.proofs.references.item_chains_fit.Tie as t
 
 pub item-chains-fit-spec : {M : Type 1} → statement M
 item-chains-fit-spec = tie.close (tie.spec
-    -- record-of-requires
-    (λ c κs. search needs)
     -- types-fit-requires
     (λ c κs. search needs)
     -- returns

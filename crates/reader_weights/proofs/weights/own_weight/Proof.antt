@@ -1,15 +1,15 @@
 use borrow.Author.Needs.{needs}
 use Rattle.reader.specs.TestLaws.{trues}
-use Rattle.reader.specs.Weight.{ownWeight}
+use Rattle.reader_weights.specs.Weights.{classWeight}
 use Rattle.reader_weights.proofs.weights.own_weight.Statement.{statement}
 use Rattle.reader_weights.proofs.weights.own_weight.Tie as tie
 
 pub own-weight-spec : {M : Type 1} → statement M
-unfolding ownWeight
+unfolding classWeight
 own-weight-spec = tie.close (tie.spec
-    -- is-weighed-requires: 0 args
+    -- is-weighed-requires
     (λ c κs. search needs)
-    -- returns: if1; 1 is-weighed; 2 args
+    -- returns
     (λ c. search trues)
-    -- returns-2: if1; 1 is-weighed; 2 args
+    -- returns-2
     (λ c. search trues))
