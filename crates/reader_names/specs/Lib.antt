@@ -1,4 +1,6 @@
 pub mod Symbols
 pub mod NameKeys
 pub mod Room
+pub mod PlainBytes
+pub mod Plain
 pub mod Taken

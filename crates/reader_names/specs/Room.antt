@@ -1,6 +1,6 @@
 -- A name of at most 32 characters has a key.
 use Prim.Native.Nat.{ℕ, zero, suc, _+_, _*_, _/_, _%_, _<_, _≤_}
-use mathlib.Core.Path.{_≡_, refl}
+use mathlib.Core.Path.{_≡_, refl, ap}
 use mathlib.Core.List.{List, [], _∷_}
 use mathlib.Core.Bool.{Bool, true, false, false≢true}
 use lib.Dec.{eqb}
@@ -11,14 +11,13 @@ use Rattle.reader.specs.Words.{Reader}
 use Rattle.reader.specs.Tests.{both, every, ifEq}
 use Rattle.reader.specs.Chains.{linked}
 use Rattle.reader.specs.NameLaws.{Spells, spells}
-use Rattle.reader.specs.TreeLaws.{linked-zero}
 use Rattle.reader.specs.Names.{nameOf, nameSpace, nameBytes, characters, name, hasBytes, startsWell, isName}
 use Rattle.reader.specs.Records.{nameLengthFits, nameSpelled}
 use Rattle.reader_equality.specs.declared.Key.{Key}
 use Rattle.reader_characters.specs.Steps.{isSpelled}
 use Rattle.reader_characters.specs.Laws.{bytes-most}
 use Rattle.reader_characters.specs.Spelling.{is-spelled-cons}
-use Rattle.reader_names.specs.NameKeys.{spaceKey, hasRoom, dealt, mixed, spread, nameKey, isSmall, spread-go, spread-all, small-first, small-rest, name-small}
+use Rattle.reader_names.specs.NameKeys.{spaceKey, hasRoom, dealt, spread, nameParts, nameKey, isSmall, spread-go, spread-all, small-first, small-rest, name-small, parts-unnamed, key-none-of, key-some-of}
 
 -- the numbers that have room for n digits more
 bound : ℕ → ℕ
@@ -66,7 +65,6 @@ deal k c cs p h = spread-go k c cs (simp (hasRoom, both, ne-eqb c 0 (first-chara
 
 -- none is left
 deal-none : (k : Key) → 0 < k .third → 0 < k .kind % 4 → 0 < (spread k []) .kind
-unfolding mixed
 deal-none k p q = rw (← spread-all k (omega arith)) (omega arith)
 
 -- four characters at a time
@@ -158,17 +156,16 @@ starts-some (c ∷ cs) h = omega arith
 
 -- a name with its records and its characters as they must be has a key
 pub named-key : (rd : Reader) (i : ℕ) → (nameOf rd i ≡ 0 → ⊥) → nameLengthFits rd i ≡ true → nameSpelled rd i ≡ true → 0 < (nameKey rd i) .kind
-unfolding nameKey nameLengthFits nameSpelled isName isSpelled bound
+unfolding nameParts nameLengthFits nameSpelled isName isSpelled bound
 named-key rd i p fits stands =
     let is : isName rd i ≡ true = simp (nameSpelled, ne-eqb (nameOf rd i) 0 p) at stands in
     let well = both-second (every (hasBytes rd) (linked rd (nameOf rd i))) _ is in
     let spells : Characters (name rd i) = record { spelled = both-first (isSpelled (name rd i)) _ well; small = name-small rd i } in
     let some = starts-some (name rd i) (both-second (isSpelled (name rd i)) _ well) in
     let few = leb-true (length (linked rd (nameOf rd i))) 4 fits in
-    deal-all 8 (spaceKey (nameSpace (rd i 0))) (name rd i) (record { atom = omega arith; first = omega arith; second = omega arith; third = omega arith }) spells
-    (omega (arith, few, name-most rd i)) (omega (arith, some)) (named-space rd i p)
+    key-some-of rd i (deal-all 8 (spaceKey (nameSpace (rd i 0))) (name rd i) (record { atom = omega arith; first = omega arith; second = omega arith; third = omega arith }) spells
+    (omega (arith, few, name-most rd i)) (omega (arith, some)) (named-space rd i p))
 
 -- a record that names none has no key
 pub unnamed-key : (rd : Reader) (i : ℕ) → nameOf rd i ≡ 0 → (nameKey rd i) .kind ≡ 0
-unfolding nameKey name nameBytes characters spread ifEq
-unnamed-key rd i e = rw (e, linked-zero rd)
+unnamed-key rd i e = key-none-of rd i (ap (λ (x : Key). x .kind) (parts-unnamed rd i e))

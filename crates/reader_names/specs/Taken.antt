@@ -14,7 +14,7 @@ use Rattle.reader.specs.Records.{nameLengthFits, nameSpelled, nameIsFree}
 use Rattle.reader_equality.specs.declared.Key.{Key}
 use Rattle.reader_equality.specs.Tables.{Zeros}
 use Rattle.reader_slots.specs.Slots.{In, Placed, Put, Ended, placed-none, placed-next, old-put, new-put}
-use Rattle.reader_names.specs.NameKeys.{nameKey, key-space, key-name, name-key}
+use Rattle.reader_names.specs.NameKeys.{mixed, nameParts, nameKey, key-none-of, key-some-of, key-space, key-name, parts-equal, name-key}
 use Rattle.reader_names.specs.Room.{named-key, unnamed-key}
 
 -- a record in the slots has the key of record x
@@ -195,20 +195,31 @@ module _ (rd : Reader) (before after : List ℕ) (i r : ℕ) (p : 0 < i) (has : 
     free = λ h. free-is (i - 1) (omega arith) (nameTaken rd i) refl;
   }
 
--- The ways out of `enter`: k is the key of record i, and the search for it has ended at slot r.
-module _ (rd : Reader) (slots : List ℕ) (k : Key) (i : ℕ) (p : 0 < i) (ek : k ≡ nameKey rd i) (names : Names rd slots i) where
-  pub enter-out : k .kind ≡ 0 → Looked rd i i slots
-  enter-out h = looked-out rd slots i (sym (ap (λ (x : Key). x .kind) ek) ∙ h) names
+-- The ways out of `enter`: `parts` are the dealt characters of record i, and the search for its key has ended at slot r.
+module _ (rd : Reader) (slots : List ℕ) (parts : Key) (i : ℕ) (p : 0 < i) (ep : parts ≡ nameParts rd i) (names : Names rd slots i) where
+  pub enter-out : parts .kind ≡ 0 → Looked rd i i slots
+  enter-out h = looked-out rd slots i (key-none-of rd i (sym (ap (λ (x : Key). x .kind) ep) ∙ h)) names
 
-  module _ (some : k .kind ≡ 0 → ⊥) (r : ℕ) (ended : Ended (nameKey rd) slots k i r) (j : ℕ) (ej : j ≡ getD slots r 0) where
+  module _ (some : parts .kind ≡ 0 → ⊥) (r : ℕ) (ended : Ended (nameKey rd) slots (mixed parts) i r) (j : ℕ) (ej : j ≡ getD slots r 0) where
     has-key : 0 < (nameKey rd i) .kind
-    has-key = omega (arith, ap (λ (x : Key). x .kind) ek)
+    has-key = key-some-of rd i (omega (arith, ap (λ (x : Key). x .kind) ep))
+
+    is-key : mixed parts ≡ nameKey rd i
+    is-key = sym (parts-equal rd i parts (sym ep))
 
     pub enter-old : (j ≡ 0 → ⊥) → Looked rd i j slots
-    enter-old n = looked-up rd slots slots i j p has-key names (old-put (nameKey rd) slots k i r p ek (names .placed) ended j ej n)
+    enter-old n = looked-up rd slots slots i j p has-key names (old-put (nameKey rd) slots (mixed parts) i r p is-key (names .placed) ended j ej n)
 
     pub enter-new : j ≡ 0 → r < length slots → Looked rd i i (set slots r i)
-    enter-new z l = looked-up rd slots (set slots r i) i i p has-key names (new-put (nameKey rd) slots k i r p ek (names .placed) ended (sym ej ∙ z) l)
+    enter-new z l = looked-up rd slots (set slots r i) i i p has-key names (new-put (nameKey rd) slots (mixed parts) i r p is-key (names .placed) ended (sym ej ∙ z) l)
+
+-- a record that names nothing: it stays out, and its name is free
+pub names-pass : (rd : Reader) (slots : List ℕ) (i n : ℕ) → n ≡ nameOf rd i → n ≡ 0 → Names rd slots i → Names rd slots (i + 1)
+names-pass rd slots i n e z names = looked-out rd slots i (unnamed-key rd i (sym e ∙ z)) names .names
+
+pub free-none : (rd : Reader) (i n : ℕ) → n ≡ nameOf rd i → n ≡ 0 → true ≡ nameIsFree rd i
+unfolding nameIsFree
+free-none rd i n e z = simp (nameIsFree, ← e, eq-eqb n 0 z)
 
 -- what `name_is_free` says
 pub looked-free : (rd : Reader) (i r : ℕ) (after : List ℕ) → nameLengthFits rd i ≡ true → nameSpelled rd i ≡ true → Looked rd i r after → eqb r i ≡ nameIsFree rd i

@@ -20,14 +20,14 @@ enter-all-spec = tie.close (tie.spec
     Inv-loop μ-loop
     -- loop-holds: 3 args
     (λ c. (omega arith, omega arith, refl, search needs))
-    -- enter-requires: enter-arg; 1 loop-test; 2 loop; 6 args
+    -- enter-one-requires: enter-one-arg; 1 loop-test; 2 loop; 6 args
     (λ c κs. let l = c .before .before .loop .inv in (l .0, room-less _ _ _ _ (l .2) (c .before .loop-test .taken) (c .before .before .before .before .before .before .pre .0), l .3))
-    -- add-i: 1 slots; 2 enter; 3 enter-arg; 4 loop-test; 5 loop; 9 args
+    -- add-i: 1 slots; 2 enter-one; 3 enter-one-arg; 4 loop-test; 5 loop; 9 args
     (λ c. search needs)
-    -- loop-less: 1 slots; 2 enter; 3 enter-arg; 4 loop-test; 5 loop; 9 args
+    -- loop-less: 1 slots; 2 enter-one; 3 enter-one-arg; 4 loop-test; 5 loop; 9 args
     (λ c. omega arith)
-    -- loop-again: 1 slots; 2 enter; 3 enter-arg; 4 loop-test; 5 loop; 9 args
-    (λ c. (omega arith, omega arith, search needs, c .before .before .enter .ensures .names))
+    -- loop-again: 1 slots; 2 enter-one; 3 enter-one-arg; 4 loop-test; 5 loop; 9 args
+    (λ c. (omega arith, omega arith, search needs, c .before .before .enter-one .ensures))
     -- same-length: loop-test; 1 loop; 5 args
     (λ c. search needs)
     -- returns: loop-test; 1 loop; 5 args

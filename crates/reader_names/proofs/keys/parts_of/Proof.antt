@@ -7,19 +7,19 @@ use Rattle.reader.specs.Words.{word}
 use Rattle.reader.specs.Tests.{every}
 use Rattle.reader_characters.specs.Steps.{Held, spelled}
 use Rattle.reader_characters.specs.Spelling.{spelled-falls}
-use Rattle.reader_names.specs.NameKeys.{spread, nameKey, isSmall, key-nameless, key-start, step-small, value-small, key-stop, key-go, key-none, key-all}
-use Rattle.reader_names.proofs.keys.key_of.Statement.{statement}
-use Rattle.reader_names.proofs.keys.key_of.Tie as tie
+use Rattle.reader_names.specs.NameKeys.{spread, nameParts, isSmall, key-nameless, key-start, step-small, value-small, key-stop, key-go, key-none, key-all}
+use Rattle.reader_names.proofs.keys.parts_of.Statement.{statement}
+use Rattle.reader_names.proofs.keys.parts_of.Tie as tie
 
 abbrev Inv-loop : tie.InvT-loop
 Inv-loop obligation second m i first key₀ s₀ key s =
-    (nameKey (word obligation second m) i ≡ spread key (spelled (word obligation second m) s)) × (every isSmall (spelled (word obligation second m) s) ≡ true) × Held s
+    (nameParts (word obligation second m) i ≡ spread key (spelled (word obligation second m) s)) × (every isSmall (spelled (word obligation second m) s) ≡ true) × Held s
 
 abbrev μ-loop : tie.MeasureT-loop
 μ-loop obligation second m i first key₀ s₀ key s = length (spelled (word obligation second m) s)
 
-pub key-of-spec : {M : Type 1} → statement M
-key-of-spec = tie.close (tie.spec
+pub parts-of-spec : {M : Type 1} → statement M
+parts-of-spec = tie.close (tie.spec
     Inv-loop μ-loop
     -- word-at-requires: 2 args
     (λ c κs. search needs)
@@ -57,7 +57,5 @@ key-of-spec = tie.close (tie.spec
     (λ c κs. search needs)
     -- returns-3: space-key4; 1 if3; 2 struct-known; 3 loop-test; 4 loop; 5 next-character; 6 start; 7 if1; 8 name-of; 9 space-key; 10 space-of; 11 word-at; 14 args
     (λ c. search key-none)
-    -- mixed-requires: if3; 1 struct-known; 2 loop-test; 3 loop; 4 next-character; 5 start; 6 if1; 7 name-of; 8 space-key; 9 space-of; 10 word-at; 13 args
-    (λ c κs. search needs)
-    -- returns-4: mixed; 1 if3; 2 struct-known; 3 loop-test; 4 loop; 5 next-character; 6 start; 7 if1; 8 name-of; 9 space-key; 10 space-of; 11 word-at; 14 args
+    -- returns-4: if3; 1 struct-known; 2 loop-test; 3 loop; 4 next-character; 5 start; 6 if1; 7 name-of; 8 space-key; 9 space-of; 10 word-at; 13 args
     (λ c. search key-all))
