@@ -12,10 +12,6 @@ use Rattle.reader_bytes.specs.Bytes.{byteOf, partsOf, premisesOf}
 use Rattle.reader_bytes.specs.ByteLaws.{Says, says-one, halves-one, always, no-byte}
 use Rattle.proof_bytes.specs.Bytes.{proofBytes, proofByte}
 
--- the byte of a kind that was read
-pub proof-byte-at : (word k byte : ℕ) → k ≡ word → byte ≡ proofByte k → byte ≡ proofByte word
-proof-byte-at word k byte ek eb = rw (← ek) eb
-
 -- a kind that is no rule has the byte 0
 byte-none : (k : ℕ) → NoRule k → 0 ≡ proofByte k
 unfolding proofByte

@@ -1,9 +1,10 @@
 // Refusal 15 of a proof's nodes: letters that stand for one thing are equal, replacement, types, closedness.
 use proof_places::bears;
+use proof_references::references_of;
 use proof_replacement::is_replaced;
 use proof_rows::paths;
 use reader::trees;
-use reader::words;
+use reader_chains::chains;
 use reader_closedness::tests;
 use reader_comparison::numbers;
 use reader_instances::instances;
@@ -17,10 +18,9 @@ ghost use Rattle.reader.specs.Variables.{isClosed};
 ghost use Rattle.reader_closedness.specs.Reaches.{Reached};
 ghost use Rattle.reader_equality.specs.Least.{Numbered};
 ghost use Rattle.reader_equality.specs.Tables.{Zeros};
-ghost use Rattle.proof_rules.specs.Rules.{Row};
-ghost use Rattle.proof_rules.specs.Check.{rowOf};
-ghost use Rattle.proof_rows.specs.Paths.{pathTree, partTrees};
-ghost use Rattle.proof_fits.specs.Fits.{fits35, quantified, fits45, fits46, places, replacedParts};
+ghost use Rattle.proof_rules.specs.Rules.{Row, row};
+ghost use Rattle.proof_rows.specs.Paths.{pathTree};
+ghost use Rattle.proof_fits.specs.Fits.{equation, quantified, typesPut, places, replacedParts, equality, further, closedFrom};
 
 // Are the items of chain c closed?
 fn are_closed(obligation: &[u8], second: &[u8], m: usize, reaches: &[usize], c: usize) -> bool
@@ -29,33 +29,22 @@ fn are_closed(obligation: &[u8], second: &[u8], m: usize, reaches: &[usize], c: 
 {
     let mut l = c;
     while l != 0 {
-        let item = trees::lower_at(obligation, second, m, l, 1);
-        if !tests::is_closed(obligation, second, m, reaches, item) {
+        let link = references_of(obligation, second, m, l);
+        if !tests::is_closed(obligation, second, m, reaches, link.first) {
             return false;
         }
-        l = trees::lower_at(obligation, second, m, l, 3);
+        l = link.third;
     }
     true
 }
 
 // ¬(t=t): is the one t the other?
-fn fits_equation(
-    obligation: &[u8],
-    second: &[u8],
-    m: usize,
-    numbers: &[usize],
-    reaches: &[usize],
-    n: usize,
-) -> bool
-    requires { ⌜ Numbered (word (now obligation) (now second) m) (now numbers) (length (now numbers)) × Reached (word (now obligation) (now second) m) (now reaches) (length (now reaches)) ⌝ }
-    ensures { λ r. ⌜ r ≡ fits35 (partTrees (word (now (obligation .entry)) (now (second .entry)) m) n) ⌝ }
+fn fits_equation(obligation: &[u8], second: &[u8], m: usize, numbers: &[usize], c: usize) -> bool
+    requires { ⌜ Numbered (word (now obligation) (now second) m) (now numbers) (length (now numbers)) ⌝ }
+    ensures { λ r. ⌜ r ≡ equation (itemTrees (word (now (obligation .entry)) (now (second .entry)) m) c) ⌝ }
 {
-    let c = trees::lower_at(obligation, second, m, n, 1);
-    let t = paths::path_record(obligation, second, m, n, 4);
-    let u = paths::path_record(obligation, second, m, n, 5);
-    if !are_closed(obligation, second, m, reaches, c) {
-        return false;
-    }
+    let t = paths::path_record(obligation, second, m, c, 5);
+    let u = paths::path_record(obligation, second, m, c, 6);
     numbers::same_at(obligation, second, m, numbers, t, u)
 }
 
@@ -68,22 +57,18 @@ fn fits_quantified(
     numbers: &[usize],
     reaches: &[usize],
     seen: &mut [usize],
-    n: usize,
+    c: usize,
     p: u8,
 ) -> bool
     requires { ⌜ Numbered (word (now obligation) (now second) m) (now numbers) (length (now numbers)) × Reached (word (now obligation) (now second) m) (now reaches) (length (now reaches)) × Zeros (now seen) ⌝ }
-    ensures { λ r. ⌜ (r ≡ quantified (partTrees (word (now (obligation .entry)) (now (second .entry)) m) n) (pathTree (partTrees (word (now (obligation .entry)) (now (second .entry)) m) n) p)) × Zeros (now (seen .exit)) ⌝ }
+    ensures { λ r. ⌜ (r ≡ quantified (itemTrees (word (now (obligation .entry)) (now (second .entry)) m) c) (pathTree (itemTrees (word (now (obligation .entry)) (now (second .entry)) m) c) p)) × Zeros (now (seen .exit)) ⌝ }
 {
-    let c = trees::lower_at(obligation, second, m, n, 1);
-    let q = paths::path_record(obligation, second, m, n, p);
-    let t = paths::part_of(obligation, second, m, n, 1);
-    let instance = paths::part_of(obligation, second, m, n, 2);
+    let q = paths::path_record(obligation, second, m, c, p);
+    let t = chains::item_at(obligation, second, m, c, 1);
+    let instance = chains::item_at(obligation, second, m, c, 2);
     let wanted = trees::child_at(obligation, second, m, q, 1);
     let body = trees::child_at(obligation, second, m, q, 2);
     let own = types::type_at(obligation, second, m, t);
-    if !are_closed(obligation, second, m, reaches, c) {
-        return false;
-    }
     if !numbers::same_at(obligation, second, m, numbers, own, wanted) {
         return false;
     }
@@ -106,20 +91,15 @@ fn fits_instance(
     second: &[u8],
     m: usize,
     numbers: &[usize],
-    reaches: &[usize],
     seen: &mut [usize],
-    n: usize,
+    c: usize,
 ) -> bool
-    requires { ⌜ Numbered (word (now obligation) (now second) m) (now numbers) (length (now numbers)) × Reached (word (now obligation) (now second) m) (now reaches) (length (now reaches)) × Zeros (now seen) ⌝ }
-    ensures { λ r. ⌜ (r ≡ fits45 (partTrees (word (now (obligation .entry)) (now (second .entry)) m) n)) × Zeros (now (seen .exit)) ⌝ }
+    requires { ⌜ Numbered (word (now obligation) (now second) m) (now numbers) (length (now numbers)) × Zeros (now seen) ⌝ }
+    ensures { λ r. ⌜ (r ≡ typesPut (itemTrees (word (now (obligation .entry)) (now (second .entry)) m) c)) × Zeros (now (seen .exit)) ⌝ }
 {
-    let c = trees::lower_at(obligation, second, m, n, 1);
     let rest = trees::lower_at(obligation, second, m, c, 3);
-    let formula = paths::path_record(obligation, second, m, n, 6);
-    let instance = paths::part_of(obligation, second, m, n, 1);
-    if !are_closed(obligation, second, m, reaches, rest) {
-        return false;
-    }
+    let formula = paths::path_record(obligation, second, m, c, 8);
+    let instance = chains::item_at(obligation, second, m, c, 1);
     instances::same_instance(
         obligation,
         second,
@@ -141,14 +121,14 @@ fn fits_places(
     numbers: &[usize],
     reaches: &[usize],
     seen: &mut [usize],
-    n: usize,
+    c: usize,
 ) -> bool
     requires { ⌜ Numbered (word (now obligation) (now second) m) (now numbers) (length (now numbers)) × Reached (word (now obligation) (now second) m) (now reaches) (length (now reaches)) × Zeros (now seen) ⌝ }
-    ensures { λ r. ⌜ (r ≡ places (partTrees (word (now (obligation .entry)) (now (second .entry)) m) n)) × Zeros (now (seen .exit)) ⌝ }
+    ensures { λ r. ⌜ (r ≡ places (itemTrees (word (now (obligation .entry)) (now (second .entry)) m) c)) × Zeros (now (seen .exit)) ⌝ }
 {
-    let body = paths::part_of(obligation, second, m, n, 0);
-    let t = paths::part_of(obligation, second, m, n, 1);
-    let u = paths::part_of(obligation, second, m, n, 2);
+    let body = chains::item_at(obligation, second, m, c, 0);
+    let t = chains::item_at(obligation, second, m, c, 1);
+    let u = chains::item_at(obligation, second, m, c, 2);
     let t_type = types::type_at(obligation, second, m, t);
     let u_type = types::type_at(obligation, second, m, u);
     if !numbers::same_at(obligation, second, m, numbers, t_type, u_type) {
@@ -157,10 +137,10 @@ fn fits_places(
     if !bears(obligation, second, m, numbers, reaches, seen, body, t_type) {
         return false;
     }
-    fits_replaced(obligation, second, m, numbers, reaches, seen, n, body, t, u)
+    fits_replaced(obligation, second, m, numbers, reaches, seen, c, body, t, u)
 }
 
-// Are parts 3 and 4 of node n record `body` with t and with u in place of index 0? The table is scratch, zeros before and zeros again.
+// Are parts 3 and 4 of chain c record `body` with t and with u in place of index 0? The table is scratch, zeros before and zeros again.
 fn fits_replaced(
     obligation: &[u8],
     second: &[u8],
@@ -168,16 +148,16 @@ fn fits_replaced(
     numbers: &[usize],
     reaches: &[usize],
     seen: &mut [usize],
-    n: usize,
+    c: usize,
     body: usize,
     t: usize,
     u: usize,
 ) -> bool
     requires { ⌜ Numbered (word (now obligation) (now second) m) (now numbers) (length (now numbers)) × Reached (word (now obligation) (now second) m) (now reaches) (length (now reaches)) × Zeros (now seen) ⌝ }
-    ensures { λ r. ⌜ (r ≡ replacedParts (word (now (obligation .entry)) (now (second .entry)) m) n body t u) × Zeros (now (seen .exit)) ⌝ }
+    ensures { λ r. ⌜ (r ≡ replacedParts (word (now (obligation .entry)) (now (second .entry)) m) c body t u) × Zeros (now (seen .exit)) ⌝ }
 {
-    let one = paths::part_of(obligation, second, m, n, 3);
-    let other = paths::part_of(obligation, second, m, n, 4);
+    let one = chains::item_at(obligation, second, m, c, 3);
+    let other = chains::item_at(obligation, second, m, c, 4);
     if !is_replaced(obligation, second, m, numbers, reaches, seen, one, t, body) {
         return false;
     }
@@ -194,7 +174,7 @@ fn fits_replaced(
     )
 }
 
-// "B is open in index 0 at most", the other parts are closed, and the places fit. The table is scratch, zeros before and zeros again.
+// "B is open in index 0 at most", and the places fit. The table is scratch, zeros before and zeros again.
 fn fits_equality(
     obligation: &[u8],
     second: &[u8],
@@ -202,24 +182,61 @@ fn fits_equality(
     numbers: &[usize],
     reaches: &[usize],
     seen: &mut [usize],
-    n: usize,
+    c: usize,
 ) -> bool
     requires { ⌜ Numbered (word (now obligation) (now second) m) (now numbers) (length (now numbers)) × Reached (word (now obligation) (now second) m) (now reaches) (length (now reaches)) × Zeros (now seen) ⌝ }
-    ensures { λ r. ⌜ (r ≡ fits46 (partTrees (word (now (obligation .entry)) (now (second .entry)) m) n)) × Zeros (now (seen .exit)) ⌝ }
+    ensures { λ r. ⌜ (r ≡ equality (itemTrees (word (now (obligation .entry)) (now (second .entry)) m) c)) × Zeros (now (seen .exit)) ⌝ }
 {
-    let c = trees::lower_at(obligation, second, m, n, 1);
-    let rest = trees::lower_at(obligation, second, m, c, 3);
-    let body = paths::part_of(obligation, second, m, n, 0);
+    let body = chains::item_at(obligation, second, m, c, 0);
     if !tests::indices_below(obligation, second, m, reaches, body, 1) {
         return false;
     }
-    if !are_closed(obligation, second, m, reaches, rest) {
-        return false;
-    }
-    fits_places(obligation, second, m, numbers, reaches, seen, n)
+    fits_places(obligation, second, m, numbers, reaches, seen, c)
 }
 
-// Do the parts of node n fit, as its rule asks? The table is scratch, zeros before and zeros again.
+// What rule k, one of 32 to 46, asks of the parts in chain c besides closedness. The table is scratch, zeros before and zeros again.
+fn fits_further(
+    obligation: &[u8],
+    second: &[u8],
+    m: usize,
+    numbers: &[usize],
+    reaches: &[usize],
+    seen: &mut [usize],
+    k: usize,
+    c: usize,
+) -> bool
+    requires { ⌜ Numbered (word (now obligation) (now second) m) (now numbers) (length (now numbers)) × Reached (word (now obligation) (now second) m) (now reaches) (length (now reaches)) × Zeros (now seen) ⌝ }
+    ensures { λ r. ⌜ (r ≡ further k (itemTrees (word (now (obligation .entry)) (now (second .entry)) m) c)) × Zeros (now (seen .exit)) ⌝ }
+{
+    if k == 35 {
+        return fits_equation(obligation, second, m, numbers, c);
+    }
+    if k < 43 {
+        return true;
+    }
+    if k == 43 {
+        return fits_quantified(obligation, second, m, numbers, reaches, seen, c, 4);
+    }
+    if k == 44 {
+        return fits_quantified(obligation, second, m, numbers, reaches, seen, c, 0);
+    }
+    if k == 45 {
+        return fits_instance(obligation, second, m, numbers, seen, c);
+    }
+    fits_equality(obligation, second, m, numbers, reaches, seen, c)
+}
+
+// The chain of the parts that rule k asks to be closed: all in chain c, or all but the first of 45 and 46.
+fn closed_from(obligation: &[u8], second: &[u8], m: usize, k: usize, c: usize) -> usize
+    ensures { λ r. ⌜ r ≡ closedFrom (word (now (obligation .entry)) (now (second .entry)) m) k c ⌝ }
+{
+    if k < 45 {
+        return c;
+    }
+    trees::lower_at(obligation, second, m, c, 3)
+}
+
+// Do the parts in chain c fit, as rule k asks? The table is scratch, zeros before and zeros again.
 pub fn fits(
     obligation: &[u8],
     second: &[u8],
@@ -227,33 +244,21 @@ pub fn fits(
     numbers: &[usize],
     reaches: &[usize],
     seen: &mut [usize],
-    n: usize,
+    k: usize,
+    c: usize,
 ) -> bool
     requires { ⌜ Numbered (word (now obligation) (now second) m) (now numbers) (length (now numbers)) × Reached (word (now obligation) (now second) m) (now reaches) (length (now reaches)) × Zeros (now seen) ⌝ }
-    ensures { λ r. ⌜ (r ≡ rowOf (word (now (obligation .entry)) (now (second .entry)) m) n .fits) × Zeros (now (seen .exit)) ⌝ }
+    ensures { λ r. ⌜ (r ≡ row k (itemTrees (word (now (obligation .entry)) (now (second .entry)) m) c) .fits) × Zeros (now (seen .exit)) ⌝ }
 {
-    let k = words::word_at(obligation, second, m, n, 0);
     if k < 32 {
         return false;
     }
     if 46 < k {
         return false;
     }
-    if k == 35 {
-        return fits_equation(obligation, second, m, numbers, reaches, n);
+    let closed = closed_from(obligation, second, m, k, c);
+    if !are_closed(obligation, second, m, reaches, closed) {
+        return false;
     }
-    if k == 43 {
-        return fits_quantified(obligation, second, m, numbers, reaches, seen, n, 3);
-    }
-    if k == 44 {
-        return fits_quantified(obligation, second, m, numbers, reaches, seen, n, 0);
-    }
-    if k == 45 {
-        return fits_instance(obligation, second, m, numbers, reaches, seen, n);
-    }
-    if k == 46 {
-        return fits_equality(obligation, second, m, numbers, reaches, seen, n);
-    }
-    let c = trees::lower_at(obligation, second, m, n, 1);
-    are_closed(obligation, second, m, reaches, c)
+    fits_further(obligation, second, m, numbers, reaches, seen, k, c)
 }

@@ -2,11 +2,11 @@
 use Prim.Native.Nat.{ℕ, zero, suc, _-_, _/_, _%_, _<_, _≤_}
 use mathlib.Core.Path.{_≡_, refl, ap}
 use mathlib.Core.List.{List, [], _∷_}
-use mathlib.Core.Bool.{Bool, false}
+use mathlib.Core.Bool.{Bool, true, false, not}
 use lib.Dec.{eqb, eqb·suc-zero}
 use lib.ListN.{getD, replicate}
 use native.Mathlib.Omega.{arith}
-use borrow.Author.Tests.{eq-eqb, ne-eqb, lt-ltb, le-ltb}
+use borrow.Author.Tests.{eq-eqb, ne-eqb, lt-ltb, le-ltb, not-true, not-false}
 use Rattle.reader.specs.Words.{Reader}
 use Rattle.reader.specs.Tests.{both, ifLt}
 use Rattle.reader.specs.Down.{iter, down}
@@ -16,6 +16,8 @@ use Rattle.reader.specs.Trees.{Tree, leaf, lower, child, atom, tree, kindOf, at
 use Rattle.reader.specs.Chains.{itemTrees}
 use Rattle.reader.specs.Shapes.{Shape, ofKind, ofClass, negated, type, formula, forAllTypes, hasShape, haveShapes}
 use Rattle.reader.specs.TreeLaws.{tree-zero}
+use Rattle.proof_references.specs.declared.References.{References}
+use Rattle.proof_references.specs.References.{ReferencesAre}
 use Rattle.reader_chains.specs.Shapes.{first-tree, atom-tree, lower-zero}
 use Rattle.reader_chains.specs.Chains.{trees-zero, trees-step}
 
@@ -78,25 +80,36 @@ unfolding haveShapes both shapesOf
 shapes-next zero code t ts h = absurd (h refl)
 shapes-next (suc n) code t ts h = let z : suc n - 1 ≡ n = omega arith in rw z refl
 
--- The ways out of the code that goes along a chain.
-module _ (rd : Reader) (c n code : ℕ) where
-  pub shapes-end : c ≡ 0 → eqb n 0 ≡ haveShapes (shapesOf n code) (itemTrees rd c)
-  unfolding haveShapes shapesOf
-  shapes-end h = rw (h, trees-zero rd) (go n)
-    where
-      go : (k : ℕ) → eqb k 0 ≡ haveShapes (shapesOf k code) []
-      go zero = refl
-      go (suc k) = eqb·suc-zero k
+-- the ends of a chain
+shapes-none : (n code : ℕ) → eqb n 0 ≡ haveShapes (shapesOf n code) []
+unfolding haveShapes shapesOf
+shapes-none zero code = refl
+shapes-none (suc n) code = eqb·suc-zero n
 
-  pub shapes-over : (c ≡ 0 → ⊥) → n ≡ 0 → false ≡ haveShapes (shapesOf n code) (itemTrees rd c)
-  unfolding haveShapes shapesOf
-  shapes-over h z = rw (z, trees-step rd c (omega arith)) refl
+shapes-past : (code : ℕ) (t : Tree) (ts : List Tree) → false ≡ haveShapes (shapesOf 0 code) (t ∷ ts)
+unfolding haveShapes shapesOf
+shapes-past code t ts = refl
 
-  module _ (given : c ≡ 0 → ⊥) (wanted : n ≡ 0 → ⊥) (item rest : ℕ) (ei : item ≡ lower rd c 1) (er : rest ≡ lower rd c 3) where
-    pub shapes-more : (r : Bool) →
-        r ≡ both (hasShape (shapeOf (code % 256)) (tree rd item)) (haveShapes (shapesOf (n - 1) (code / 256)) (itemTrees rd rest)) →
-        r ≡ haveShapes (shapesOf n code) (itemTrees rd c)
-    shapes-more r e = rw (trees-step rd c (omega arith), shapes-next n code _ _ wanted, ← ei, ← er) e
+-- The ways out of `have_shapes`: what is left of the chain gives the answer.
+module _ (rd : Reader) (c n code l left bytes : ℕ) (inv : haveShapes (shapesOf n code) (itemTrees rd c) ≡ haveShapes (shapesOf left bytes) (itemTrees rd l)) where
+  pub shapes-end : l ≡ 0 → eqb left 0 ≡ haveShapes (shapesOf n code) (itemTrees rd c)
+  shapes-end h = rw (inv, h, trees-zero rd) (shapes-none left bytes)
+
+  pub shapes-over : (l ≡ 0 → ⊥) → left ≡ 0 → false ≡ haveShapes (shapesOf n code) (itemTrees rd c)
+  shapes-over h z = rw (inv, z, trees-step rd l (omega arith)) (shapes-past bytes _ _)
+
+  module _ (given : l ≡ 0 → ⊥) (wanted : left ≡ 0 → ⊥) (link : References) (is : ReferencesAre rd l link) (r : Bool)
+      (er : r ≡ hasShape (shapeOf (bytes % 256)) (tree rd (link .first))) where
+    turn-is : haveShapes (shapesOf n code) (itemTrees rd c) ≡ both r (haveShapes (shapesOf (left - 1) (bytes / 256)) (itemTrees rd (link .third)))
+    turn-is = rw (inv, trees-step rd l (omega arith), shapes-next left bytes _ _ wanted, ← is .first-is, ← is .third-is, ← er) refl
+
+    pub shapes-stop : not r ≡ true → false ≡ haveShapes (shapesOf n code) (itemTrees rd c)
+    unfolding both
+    shapes-stop h = rw (turn-is, not-true r h) refl
+
+    pub shapes-more : not r ≡ false → haveShapes (shapesOf n code) (itemTrees rd c) ≡ haveShapes (shapesOf (left - 1) (bytes / 256)) (itemTrees rd (link .third))
+    unfolding both
+    shapes-more h = rw (turn-is, not-false r h) refl
 
 -- types alone
 types-more : (n : ℕ) (t : Tree) (ts : List Tree) → (n ≡ 0 → ⊥) → haveShapes (replicate n type) (t ∷ ts) ≡ both (hasShape (shapeOf 35) t) (haveShapes (replicate (n - 1) type) ts)

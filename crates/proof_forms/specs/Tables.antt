@@ -1,7 +1,7 @@
 -- What the rules 32 to 46 say of the shapes of parts, as a table, and that the rows say the same.
 use Prim.Native.Nat.{ℕ, _-_, _<_, _≤_}
 use mathlib.Core.Path.{_≡_, refl, sym, ap, _∙_}
-use mathlib.Core.List.{List, [], _∷_, map}
+use mathlib.Core.List.{List, [], _∷_}
 use mathlib.Core.Bool.{Bool, true, false}
 use lib.Dec.{ltb}
 use lib.ListN.{getD}
@@ -10,10 +10,9 @@ use borrow.Author.Tests.{lt-ltb, ltb-true, ltb-false}
 use Rattle.reader.specs.Tests.{ifEq, ifLt}
 use Rattle.reader.specs.TestLaws.{Rest, rest-past}
 use Rattle.reader.specs.Words.{Reader}
-use Rattle.reader.specs.Trees.{Tree, lower, tree}
-use Rattle.reader.specs.Chains.{items, itemTrees, parts}
+use Rattle.reader.specs.Trees.{Tree}
+use Rattle.reader.specs.Chains.{itemTrees}
 use Rattle.reader.specs.Shapes.{haveShapes}
-use Rattle.proof_rules.specs.Check.{rowOf}
 use Rattle.reader.specs.Down.{iter, down}
 use Rattle.proof_rules.specs.Rules.{row}
 use Rattle.proof_rules.specs.RowLaws.{NoRule, row-none, by-rule}
@@ -61,17 +60,15 @@ shapes-are ps =
 pub entry-rest : (table : List ℕ) (k i : ℕ) → Rest 32 k 15 → 0 ≡ ruleEntry table k i
 entry-rest table k i rest = sym (entry-none table k i (λ j low high same. omega (arith, rest-past 32 k 15 (omega arith) rest)))
 
--- the shapes of a node's parts
-module _ (rd : Reader) (n k c byte count : ℕ) (ek : k ≡ rd n 0) (ec : c ≡ lower rd n 1) (eb : byte ≡ proofByte k) (en : count ≡ partsOf byte) where
+-- the shapes of the parts in a chain
+module _ (rd : Reader) (k c byte count : ℕ) (eb : byte ≡ proofByte k) (en : count ≡ partsOf byte) where
   count-parts : count ≡ partsOf (proofByte k)
   count-parts = en ∙ ap partsOf eb
 
-  pub shapes-varying : count ≡ 15 → (r : Bool) → r ≡ instanceShapes (itemTrees rd c) → r ≡ haveShapes (rowOf rd n .shapes) (map (tree rd) (parts rd n))
-  unfolding rowOf parts instanceShapes itemTrees row ifEq
-  shapes-varying h r e = rw (← ek, proof-varies k (sym count-parts ∙ h), ← ec) e
+  pub shapes-varying : count ≡ 15 → (r : Bool) → r ≡ instanceShapes (itemTrees rd c) → r ≡ haveShapes (row k (itemTrees rd c) .shapes) (itemTrees rd c)
+  unfolding instanceShapes row ifEq
+  shapes-varying h r e = rw (proof-varies k (sym count-parts ∙ h)) e
 
   pub shapes-counted : (count ≡ 15 → ⊥) → (code : ℕ) (r : Bool) → code ≡ shapeCode k → r ≡ haveShapes (shapesOf count code) (itemTrees rd c) →
-      r ≡ haveShapes (rowOf rd n .shapes) (map (tree rd) (parts rd n))
-  unfolding rowOf parts itemTrees
-  shapes-counted h code r es e =
-      rw (← ek, shapes-are (map (tree rd) (items rd (lower rd n 1))) k (λ z. h (count-parts ∙ z)), ← es, ← ec, ← count-parts) e
+      r ≡ haveShapes (row k (itemTrees rd c) .shapes) (itemTrees rd c)
+  shapes-counted h code r es e = rw (shapes-are (itemTrees rd c) k (λ z. h (count-parts ∙ z)), ← es, ← count-parts) e

@@ -1,16 +1,15 @@
 // The form of parts: every sign that the rules show around the letters, and the class of what has no sign.
 use crate::tables;
+use proof_references::references_of;
 use reader::kinds;
 use reader::trees;
 ghost use mathlib.Core.Path.{_≡_};
-ghost use mathlib.Core.List.{map};
 ghost use lib.ListN.{replicate};
 ghost use Rattle.reader.specs.Words.{word};
 ghost use Rattle.reader.specs.Trees.{tree};
-ghost use Rattle.reader.specs.Chains.{itemTrees, parts};
+ghost use Rattle.reader.specs.Chains.{itemTrees};
 ghost use Rattle.reader.specs.Shapes.{type, hasShape, haveShapes};
-ghost use Rattle.proof_rules.specs.Rules.{Row};
-ghost use Rattle.proof_rules.specs.Check.{rowOf};
+ghost use Rattle.proof_rules.specs.Rules.{Row, row};
 ghost use Rattle.proof_bytes.specs.Bytes.{proofByte};
 ghost use Rattle.proof_forms.specs.Shapes.{shapeOf, shapesOf, instanceShapes};
 
@@ -41,18 +40,22 @@ pub fn has_shape(obligation: &[u8], second: &[u8], m: usize, i: usize, s: usize)
 fn have_shapes(obligation: &[u8], second: &[u8], m: usize, c: usize, n: usize, code: usize) -> bool
     ensures { λ r. ⌜ r ≡ haveShapes (shapesOf n code) (itemTrees (word (now (obligation .entry)) (now (second .entry)) m) c) ⌝ }
 {
-    if c == 0 {
-        return n == 0;
+    let mut l = c;
+    let mut left = n;
+    let mut bytes = code;
+    while l != 0 {
+        if left == 0 {
+            return false;
+        }
+        let link = references_of(obligation, second, m, l);
+        if !has_shape(obligation, second, m, link.first, bytes % 256) {
+            return false;
+        }
+        l = link.third;
+        left -= 1;
+        bytes /= 256;
     }
-    if n == 0 {
-        return false;
-    }
-    let item = trees::lower_at(obligation, second, m, c, 1);
-    let rest = trees::lower_at(obligation, second, m, c, 3);
-    if !has_shape(obligation, second, m, item, code % 256) {
-        return false;
-    }
-    have_shapes(obligation, second, m, rest, n - 1, code / 256)
+    left == 0
 }
 
 // Are the items of chain c n types?
@@ -91,12 +94,11 @@ fn instance_shapes(obligation: &[u8], second: &[u8], m: usize, c: usize) -> bool
     are_types(obligation, second, m, types, count)
 }
 
-// Have the parts of node n the number, classes and forms of its rule k, whose byte is `byte`?
-pub fn shapes_fit(obligation: &[u8], second: &[u8], m: usize, n: usize, k: usize, byte: u8) -> bool
-    requires { ⌜ (k ≡ word (now obligation) (now second) m n 0) × (byte ≡ proofByte k) ⌝ }
-    ensures { λ r. ⌜ r ≡ haveShapes (rowOf (word (now (obligation .entry)) (now (second .entry)) m) n .shapes) (map (tree (word (now (obligation .entry)) (now (second .entry)) m)) (parts (word (now (obligation .entry)) (now (second .entry)) m) n)) ⌝ }
+// Have the parts in chain c the number, classes and forms of rule k, whose byte is `byte`?
+pub fn shapes_fit(obligation: &[u8], second: &[u8], m: usize, c: usize, k: usize, byte: u8) -> bool
+    requires { ⌜ byte ≡ proofByte k ⌝ }
+    ensures { λ r. ⌜ r ≡ haveShapes (row k (itemTrees (word (now (obligation .entry)) (now (second .entry)) m) c) .shapes) (itemTrees (word (now (obligation .entry)) (now (second .entry)) m) c) ⌝ }
 {
-    let c = trees::lower_at(obligation, second, m, n, 1);
     let count = reader_bytes::parts_of(byte);
     // The number varies: 45's first part counts its types.
     if count == 15 {

@@ -5,9 +5,13 @@ use mathlib.Core.List.{List}
 use lib.ListN.{length}
 use native.Mathlib.Omega.{arith}
 use Rattle.reader.specs.Words.{Reader}
+use Rattle.reader.specs.Tests.{ifEq, ifLt}
+use Rattle.reader.specs.Kinds.{role}
 use Rattle.reader.specs.Trees.{Tree, child, tree, kindOf, ¬ᵗ_, _=ᵗ_}
-use Rattle.reader.specs.TreeLaws.{child-below}
-use Rattle.reader_chains.specs.Shapes.{kind-zero, kind-tree, not-tree, equal-tree}
+use Rattle.reader.specs.TreeLaws.{lower-below}
+use Rattle.reader_chains.specs.Shapes.{child-lower, kind-zero, kind-tree, not-tree, equal-tree}
+use Rattle.proof_references.specs.declared.References.{References}
+use Rattle.proof_references.specs.References.{ReferencesAre}
 use Rattle.reader_equality.specs.Least.{least, Numbered, least-most, least-tree, least-least, least-zero}
 use Rattle.proof_members.specs.Keys.{equationOf, rightOf, leftOf, body, NormalBody, Stands, body-equation, body-single, decoded-negation, decoded-plain}
 
@@ -21,6 +25,9 @@ pub record BodyOf (rd : Reader) (size q : ℕ) (t : Tree) : Type 0 where
   pub normal : NormalBody rd size q
   pub means : body rd q ≡ t
   pub small : q < 33554432
+
+pub above-zero : (i : ℕ) → (i ≡ 0 → ⊥) → 0 < i
+above-zero i h = omega arith
 
 -- a record with a kind is not record 0
 pub kind-given : (rd : Reader) (i k : ℕ) → k ≡ kindOf (tree rd i) → (k ≡ 0 → ⊥) → 0 < i
@@ -116,33 +123,48 @@ module _ (rd : Reader) (numbers : List ℕ) (table : Table rd numbers) where
       q ≡ 1 + 2 * (right + 4096 * left) → BodyOf rd (length numbers) q (tree rd t =ᵗ tree rd u)
   equation-made = equation-body rd (length numbers) (table .small)
 
-  pub single-made : (i k left q : ℕ) → i < length numbers → k ≡ kindOf (tree rd i) → (k ≡ 20 → ⊥) → left ≡ least rd i → q ≡ 0 + 2 * (0 + 4096 * left) →
-      BodyOf rd (length numbers) q (tree rd i)
-  single-made = single-body rd (length numbers) (table .small)
-
-  pub record-equation : (i k t u q : ℕ) → k ≡ kindOf (tree rd i) → k ≡ 20 → t ≡ child rd i 1 → u ≡ child rd i 2 →
-      BodyOf rd (length numbers) q (tree rd t =ᵗ tree rd u) → BodyOf rd (length numbers) q (tree rd i)
-  record-equation i k t u q ek h et eu b =
-      let pos : 0 < i = kind-given rd i k ek (λ z. omega arith) in
-      let kind : rd i 0 ≡ 20 = sym (kind-tree rd i pos) ∙ sym ek ∙ h in
-      let is : tree rd i ≡ tree rd t =ᵗ tree rd u = equal-tree rd i pos kind ∙ rw (et, eu) refl in
-      rw is b
-
   pub negated-made : (q r : ℕ) (t : Tree) → BodyOf rd (length numbers) q t → r ≡ 2 * q + 1 → Stands rd (length numbers) r (¬ᵗ t)
   negated-made = negated rd (length numbers) (table .small)
 
-  pub plain-made : (i q r k : ℕ) → k ≡ kindOf (tree rd i) → (k ≡ 18 → ⊥) → BodyOf rd (length numbers) q (tree rd i) → r ≡ 2 * q →
-      Stands rd (length numbers) r (tree rd i)
-  plain-made i q r k ek h b e = plain rd (length numbers) (table .small) q r k (tree rd i) b ek h e
+  -- record 0 is none
+  none-body : 0 < length numbers → BodyOf rd (length numbers) 0 (tree rd 0)
+  none-body p = single-body rd (length numbers) (table .small) 0 0 0 0 p (sym (kind-zero rd)) (λ z. omega (arith, z)) (sym (least-zero rd)) refl
 
-  pub record-negation : (i k x r : ℕ) → k ≡ kindOf (tree rd i) → k ≡ 18 → x ≡ child rd i 1 → Stands rd (length numbers) r (¬ᵗ (tree rd x)) →
-      Stands rd (length numbers) r (tree rd i)
-  record-negation i k x r ek h ex s =
-      let pos : 0 < i = kind-given rd i k ek (λ z. omega arith) in
-      let kind : rd i 0 ≡ 18 = sym (kind-tree rd i pos) ∙ sym ek ∙ h in
-      let is : tree rd i ≡ ¬ᵗ (tree rd x) = not-tree rd i pos kind ∙ rw ex refl in
-      rw is s
+  pub body-none : (i : ℕ) → i < length numbers → i ≡ 0 → BodyOf rd (length numbers) 0 (tree rd i)
+  body-none i p z = rw z (none-body (omega arith))
 
--- a part of a record that has a kind is a smaller record
-pub part-in : (rd : Reader) (i k w x n : ℕ) → k ≡ kindOf (tree rd i) → (k ≡ 0 → ⊥) → i < n → x ≡ child rd i w → x < n
-part-in rd i k w x n ek h p e = omega (arith, child-below rd i w (kind-given rd i k ek h))
+  pub key-none : (i : ℕ) → i < length numbers → i ≡ 0 → Stands rd (length numbers) 0 (tree rd i)
+  key-none i p z = rw z (plain rd (length numbers) (table .small) 0 0 0 (tree rd 0) (none-body (omega arith)) (sym (kind-zero rd)) (λ y. omega (arith, y)) refl)
+
+  module _ (i : ℕ) (pos : 0 < i) (x : References) (is : ReferencesAre rd i x) where
+    kind-here : x .kind ≡ kindOf (tree rd i)
+    kind-here = is .kind-is ∙ sym (kind-tree rd i pos)
+
+    pub record-equation : (q : ℕ) → x .kind ≡ 20 → BodyOf rd (length numbers) q (tree rd (x .first) =ᵗ tree rd (x .second)) → BodyOf rd (length numbers) q (tree rd i)
+    unfolding role ifLt ifEq
+    record-equation q h b =
+        let k : rd i 0 ≡ 20 = sym (is .kind-is) ∙ h in
+        let first : x .first ≡ child rd i 1 = is .first-is ∙ sym (child-lower rd i 20 k 1 (omega arith)) in
+        let last : x .second ≡ child rd i 2 = is .second-is ∙ sym (child-lower rd i 20 k 2 (omega arith)) in
+        rw (equal-tree rd i pos k, ← first, ← last) b
+
+    pub record-single : (left q : ℕ) → i < length numbers → (x .kind ≡ 20 → ⊥) → left ≡ least rd i → q ≡ 0 + 2 * (0 + 4096 * left) → BodyOf rd (length numbers) q (tree rd i)
+    record-single left q p h el eq = single-body rd (length numbers) (table .small) i (x .kind) left q p kind-here h el eq
+
+    pub record-negation : (r : ℕ) → x .kind ≡ 18 → Stands rd (length numbers) r (¬ᵗ (tree rd (x .first))) → Stands rd (length numbers) r (tree rd i)
+    unfolding role ifLt ifEq
+    record-negation r h s =
+        let k : rd i 0 ≡ 18 = sym (is .kind-is) ∙ h in
+        let first : x .first ≡ child rd i 1 = is .first-is ∙ sym (child-lower rd i 18 k 1 (omega arith)) in
+        rw (not-tree rd i pos k, ← first) s
+
+    pub record-plain : (q r : ℕ) → (x .kind ≡ 18 → ⊥) → BodyOf rd (length numbers) q (tree rd i) → r ≡ 2 * q → Stands rd (length numbers) r (tree rd i)
+    record-plain q r h b e = plain rd (length numbers) (table .small) q r (x .kind) (tree rd i) b kind-here h e
+
+-- what a record refers to is a smaller record
+module _ (rd : Reader) (i : ℕ) (x : References) (n : ℕ) (p : i < n) (pos : 0 < i) (is : ReferencesAre rd i x) where
+  pub first-in : x .first < n
+  first-in = omega (arith, is .first-is, lower-below rd i 1 pos)
+
+  pub second-in : x .second < n
+  second-in = omega (arith, is .second-is, lower-below rd i 2 pos)

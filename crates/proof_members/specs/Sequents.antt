@@ -12,7 +12,7 @@ use borrow.Author.Tests.{eq-eqb, ne-eqb}
 use Rattle.reader.specs.Words.{Reader}
 use Rattle.reader.specs.Trees.{Tree, same}
 use Rattle.reader.specs.Members.{member}
-use Rattle.proof_members.specs.Keys.{decoded, Normal, Stands, key-same}
+use Rattle.proof_members.specs.Keys.{decoded, Normal, key-same}
 use Rattle.proof_members.specs.Makers.{Table}
 
 unfoldable pub sequent : Reader → List ℕ → ℕ → List Tree
@@ -85,10 +85,3 @@ module _ (rd : Reader) (numbers memory : List ℕ) (h key : ℕ) (ready : Ready 
     pub key-more : (getD memory i 0 ≡ key → ⊥) →
         member (decoded rd key) (sequent rd memory h) ≡ member (decoded rd key) (membersFrom rd memory h (i + 1))
     key-more e = member-more rd memory h (decoded rd key) i (in-memory rd numbers memory h ready) inv lt _ (compared i lt) (ne-eqb (getD memory i 0) key e)
-
--- a key that stands for a tree
-pub key-held : (rd : Reader) (size key : ℕ) (t : Tree) (s : List Tree) (r : Bool) → Stands rd size key t → r ≡ member (decoded rd key) s → r ≡ member t s
-key-held rd size key t s r k e = rw (← k .means) e
-
-pub key-normal : (rd : Reader) (size key : ℕ) (t : Tree) → Stands rd size key t → Normal rd size key
-key-normal rd size key t k = k .normal

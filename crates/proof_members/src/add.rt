@@ -22,36 +22,3 @@ pub fn add_record(
 {
     memory[h] = keys::key_of(obligation, second, m, numbers, i);
 }
-
-// Adds ¬ before record i.
-pub fn add_negated(
-    obligation: &[u8],
-    second: &[u8],
-    m: usize,
-    numbers: &[usize],
-    memory: &mut [usize],
-    h: usize,
-    i: usize,
-)
-    requires { ⌜ Ready (word (now obligation) (now second) m) (now numbers) (now memory) h × (h < 1024) × (i < length (now numbers)) ⌝ }
-    ensures { λ _. ⌜ Added (word (now (obligation .entry)) (now (second .entry)) m) (now (numbers .entry)) (now (memory .entry)) h (¬ᵗ (tree (word (now (obligation .entry)) (now (second .entry)) m) i)) (now (memory .exit)) ⌝ }
-{
-    memory[h] = keys::negated_key(obligation, second, m, numbers, i);
-}
-
-// Adds ¬(t = u).
-pub fn add_unequal(
-    obligation: &[u8],
-    second: &[u8],
-    m: usize,
-    numbers: &[usize],
-    memory: &mut [usize],
-    h: usize,
-    t: usize,
-    u: usize,
-)
-    requires { ⌜ Ready (word (now obligation) (now second) m) (now numbers) (now memory) h × (h < 1024) × (t < length (now numbers)) × (u < length (now numbers)) ⌝ }
-    ensures { λ _. ⌜ Added (word (now (obligation .entry)) (now (second .entry)) m) (now (numbers .entry)) (now (memory .entry)) h (¬ᵗ (tree (word (now (obligation .entry)) (now (second .entry)) m) t =ᵗ tree (word (now (obligation .entry)) (now (second .entry)) m) u)) (now (memory .exit)) ⌝ }
-{
-    memory[h] = keys::unequal_key(obligation, second, m, numbers, t, u);
-}

@@ -1,12 +1,13 @@
 // Keys of members: equal members have equal keys.
-use reader::trees;
+use proof_references::References;
+use proof_references::references_of;
 use reader_comparison::numbers::number_of;
-use reader_types::shapes::tree_kind;
 ghost use mathlib.Core.Path.{_≡_};
 ghost use Prim.Native.Nat.{_+_, _*_, _<_, _≤_};
 ghost use lib.ListN.{length};
 ghost use Rattle.reader.specs.Words.{word};
 ghost use Rattle.reader.specs.Trees.{tree, _=ᵗ_, ¬ᵗ_};
+ghost use Rattle.proof_references.specs.References.{ReferencesAre};
 ghost use Rattle.proof_members.specs.Keys.{Stands};
 ghost use Rattle.proof_members.specs.Makers.{BodyOf, Table};
 
@@ -35,18 +36,35 @@ fn equation_key(
     pack(1, left, right)
 }
 
+// The key of record i as a body, which is x.
+fn body_in(
+    obligation: &[u8],
+    second: &[u8],
+    m: usize,
+    numbers: &[usize],
+    i: usize,
+    x: References,
+) -> usize
+    requires { ⌜ Table (word (now obligation) (now second) m) (now numbers) × (i < length (now numbers)) × (0 < i) × ReferencesAre (word (now obligation) (now second) m) i x ⌝ }
+    ensures { λ r. ⌜ BodyOf (word (now (obligation .entry)) (now (second .entry)) m) (length (now (numbers .entry))) r (tree (word (now (obligation .entry)) (now (second .entry)) m) i) ⌝ }
+{
+    if x.kind == 20 {
+        return equation_key(obligation, second, m, numbers, x.first, x.second);
+    }
+    let left = number_of(obligation, second, m, numbers, i);
+    pack(0, left, 0)
+}
+
 // The key of record i as a body.
 fn body_key(obligation: &[u8], second: &[u8], m: usize, numbers: &[usize], i: usize) -> usize
     requires { ⌜ Table (word (now obligation) (now second) m) (now numbers) × (i < length (now numbers)) ⌝ }
     ensures { λ r. ⌜ BodyOf (word (now (obligation .entry)) (now (second .entry)) m) (length (now (numbers .entry))) r (tree (word (now (obligation .entry)) (now (second .entry)) m) i) ⌝ }
 {
-    if tree_kind(obligation, second, m, i) == 20 {
-        let t = trees::child_at(obligation, second, m, i, 1);
-        let u = trees::child_at(obligation, second, m, i, 2);
-        return equation_key(obligation, second, m, numbers, t, u);
+    if i == 0 {
+        return 0;
     }
-    let left = number_of(obligation, second, m, numbers, i);
-    pack(0, left, 0)
+    let x = references_of(obligation, second, m, i);
+    body_in(obligation, second, m, numbers, i, x)
 }
 
 // The key of record i.
@@ -54,11 +72,14 @@ pub fn key_of(obligation: &[u8], second: &[u8], m: usize, numbers: &[usize], i: 
     requires { ⌜ Table (word (now obligation) (now second) m) (now numbers) × (i < length (now numbers)) ⌝ }
     ensures { λ r. ⌜ Stands (word (now (obligation .entry)) (now (second .entry)) m) (length (now (numbers .entry))) r (tree (word (now (obligation .entry)) (now (second .entry)) m) i) ⌝ }
 {
-    if tree_kind(obligation, second, m, i) == 18 {
-        let x = trees::child_at(obligation, second, m, i, 1);
-        return negated_key(obligation, second, m, numbers, x);
+    if i == 0 {
+        return 0;
     }
-    2 * body_key(obligation, second, m, numbers, i)
+    let x = references_of(obligation, second, m, i);
+    if x.kind == 18 {
+        return negated_key(obligation, second, m, numbers, x.first);
+    }
+    2 * body_in(obligation, second, m, numbers, i, x)
 }
 
 // The key of ¬ before record i.

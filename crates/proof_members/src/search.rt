@@ -1,5 +1,4 @@
 // Is a formula a member of the sequent?
-use crate::keys;
 use reader_types::shapes::tree_kind;
 ghost use mathlib.Core.Path.{_≡_};
 ghost use Prim.Native.Nat.{_<_};
@@ -12,7 +11,7 @@ ghost use Rattle.proof_members.specs.Sequents.{sequent, Ready};
 ghost use Rattle.proof_members.specs.Signs.{sign, isSign, Sign};
 
 // Is the member with this key one of the first h?
-fn holds(
+pub fn holds(
     obligation: &[u8],
     second: &[u8],
     m: usize,
@@ -32,58 +31,6 @@ fn holds(
         i += 1;
     }
     false
-}
-
-// Is record i a member?
-pub fn holds_record(
-    obligation: &[u8],
-    second: &[u8],
-    m: usize,
-    numbers: &[usize],
-    memory: &[usize],
-    h: usize,
-    i: usize,
-) -> bool
-    requires { ⌜ Ready (word (now obligation) (now second) m) (now numbers) (now memory) h × (i < length (now numbers)) ⌝ }
-    ensures { λ r. ⌜ r ≡ member (tree (word (now (obligation .entry)) (now (second .entry)) m) i) (sequent (word (now (obligation .entry)) (now (second .entry)) m) (now (memory .entry)) h) ⌝ }
-{
-    let key = keys::key_of(obligation, second, m, numbers, i);
-    holds(obligation, second, m, numbers, memory, h, key)
-}
-
-// Is ¬ before record i a member?
-pub fn holds_negated(
-    obligation: &[u8],
-    second: &[u8],
-    m: usize,
-    numbers: &[usize],
-    memory: &[usize],
-    h: usize,
-    i: usize,
-) -> bool
-    requires { ⌜ Ready (word (now obligation) (now second) m) (now numbers) (now memory) h × (i < length (now numbers)) ⌝ }
-    ensures { λ r. ⌜ r ≡ member (¬ᵗ (tree (word (now (obligation .entry)) (now (second .entry)) m) i)) (sequent (word (now (obligation .entry)) (now (second .entry)) m) (now (memory .entry)) h) ⌝ }
-{
-    let key = keys::negated_key(obligation, second, m, numbers, i);
-    holds(obligation, second, m, numbers, memory, h, key)
-}
-
-// Is ¬(t = u) a member?
-pub fn holds_unequal(
-    obligation: &[u8],
-    second: &[u8],
-    m: usize,
-    numbers: &[usize],
-    memory: &[usize],
-    h: usize,
-    t: usize,
-    u: usize,
-) -> bool
-    requires { ⌜ Ready (word (now obligation) (now second) m) (now numbers) (now memory) h × (t < length (now numbers)) × (u < length (now numbers)) ⌝ }
-    ensures { λ r. ⌜ r ≡ member (¬ᵗ (tree (word (now (obligation .entry)) (now (second .entry)) m) t =ᵗ tree (word (now (obligation .entry)) (now (second .entry)) m) u)) (sequent (word (now (obligation .entry)) (now (second .entry)) m) (now (memory .entry)) h) ⌝ }
-{
-    let key = keys::unequal_key(obligation, second, m, numbers, t, u);
-    holds(obligation, second, m, numbers, memory, h, key)
 }
 
 // Does the key stand for the sign of a kind without parts, or for ¬ before it?

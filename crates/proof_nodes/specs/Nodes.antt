@@ -10,7 +10,7 @@ use borrow.Author.Tests.{eq-eqb, ne-eqb, lt-ltb, le-ltb, ltb-false, le-leb}
 use Rattle.reader.specs.Words.{Reader}
 use Rattle.reader.specs.Tests.{demand, orElse, every, ifEq, ifLt}
 use Rattle.reader.specs.Trees.{Tree, atom, tree, atomOf}
-use Rattle.reader.specs.Chains.{parts}
+use Rattle.reader.specs.Chains.{itemTrees, parts}
 use Rattle.reader.specs.Shapes.{haveShapes}
 use Rattle.proof_rules.specs.Rules.{row}
 use Rattle.proof_rules.specs.RowLaws.{NoRule, row-none, by-rule}
@@ -20,8 +20,15 @@ use Rattle.reader.specs.TreeLaws.{tree-zero}
 use Rattle.reader_chains.specs.Shapes.{atom-tree}
 use Rattle.reader_equality.specs.Tables.{Zeros}
 use Rattle.proof_members.specs.Sequents.{sequent, Ready, sequent-length, in-memory}
-use Rattle.proof_rows.specs.Paths.{partRecord, partTrees, part-tree}
+use Rattle.reader_bytes.specs.Bytes.{premisesOf}
+use Rattle.reader_chains.specs.Chains.{itemAt}
+use Rattle.proof_bytes.specs.Bytes.{proofByte}
+use Rattle.proof_forms.specs.Premises.{areNodes, premises-are}
+use Rattle.proof_references.specs.declared.References.{References}
+use Rattle.proof_references.specs.References.{ReferencesAre}
+use Rattle.proof_rows.specs.Paths.{part-tree}
 use Rattle.proof_rows.specs.Tables.{needsHold}
+use Rattle.proof_rows.specs.Grown.{parts-in}
 
 -- record i stands below the numbered ones, beside h members and a scratch table of zeros with an entry for each numbered one
 pub record At (rd : Reader) (numbers memory scratch : List ℕ) (h i : ℕ) : Type 0 where
@@ -38,32 +45,42 @@ mostAdded k = ifLt k 37 0 (ifLt 46 k 0 (ifEq k 39 2 (ifEq k 40 2 1)))
 unfoldable pub roomFor : ℕ → ℕ → Bool
 roomFor h k = leb (h + mostAdded k) 1024
 
--- refusals 13 and 14, and 15 to 17
-unfoldable pub formFault : Reader → List Tree → ℕ → ℕ
-formFault rd s n =
-    demand (haveShapes (rowOf rd n .shapes) (map (tree rd) (parts rd n))) 13
-    (demand (premisesFit 1 rd n (length (rowOf rd n .adds))) 13 (demand (needsHold rd s n) 14 0))
+-- refusals 13 and 14, and 15 to 17, of a node of kind k with its parts in chain c
+unfoldable pub formFault : Reader → List Tree → References → ℕ
+formFault rd s node =
+    demand (haveShapes (row (node .kind) (itemTrees rd (node .first)) .shapes) (itemTrees rd (node .first))) 13
+    (demand (areNodes rd (node .second) (premisesOf (proofByte (node .kind)))) 13 (demand (needsHold s (node .kind) (itemTrees rd (node .first))) 14 0))
 
-unfoldable pub fitFault : Reader → List Tree → ℕ → ℕ
-fitFault rd s n =
-    demand (rowOf rd n .fits) 15
-    (demand (every (isFresh s) (rowOf rd n .fresh)) 16 (demand (hasRoom s (rowOf rd n .adds)) 17 0))
+unfoldable pub fitFault : Reader → List Tree → ℕ → ℕ → ℕ
+fitFault rd s k c =
+    demand (row k (itemTrees rd c) .fits) 15
+    (demand (every (isFresh s) (row k (itemTrees rd c) .fresh)) 16 (demand (hasRoom s (row k (itemTrees rd c) .adds)) 17 0))
+
+-- the number of premises by the byte that was read
+pub nodes-by-byte : (rd : Reader) (d k byte : ℕ) (r : Bool) → byte ≡ proofByte k → r ≡ areNodes rd d (premisesOf byte) → r ≡ areNodes rd d (premisesOf (proofByte k))
+nodes-by-byte rd d k byte r eb e = rw (← eb) e
 
 -- the two one after the other are the node's
-pub both-faults : (rd : Reader) (s : List Tree) (n : ℕ) → orElse (formFault rd s n) (fitFault rd s n) ≡ nodeFault rd s n
-unfolding nodeFault rowFault formFault needsHold fitFault demand orElse
-both-faults rd s n =
-    go (haveShapes (rowOf rd n .shapes) (map (tree rd) (parts rd n))) (premisesFit 1 rd n (length (rowOf rd n .adds)))
-    (every (λ t. member t s) (rowOf rd n .needs))
+both-faults : (rd : Reader) (s : List Tree) (n : ℕ) (node : References) → ReferencesAre rd n node →
+    orElse (formFault rd s node) (fitFault rd s (node .kind) (node .first)) ≡ nodeFault rd s n
+unfolding nodeFault rowFault rowOf parts itemTrees formFault needsHold fitFault demand orElse
+both-faults rd s n node is =
+    rw (is .kind-is, is .first-is, is .second-is, ← premises-are rd n)
+    (go (haveShapes (rowOf rd n .shapes) (map (tree rd) (parts rd n))) (premisesFit 1 rd n (length (rowOf rd n .adds)))
+    (every (λ t. member t s) (rowOf rd n .needs)))
   where
-    go : (a b c : Bool) → orElse (demand a 13 (demand b 13 (demand c 14 0))) (fitFault rd s n) ≡ demand a 13 (demand b 13 (demand c 14 (fitFault rd s n)))
+    rest : ℕ
+    rest = demand (rowOf rd n .fits) 15 (demand (every (isFresh s) (rowOf rd n .fresh)) 16 (demand (hasRoom s (rowOf rd n .adds)) 17 0))
+
+    go : (a b c : Bool) → orElse (demand a 13 (demand b 13 (demand c 14 0))) rest ≡ demand a 13 (demand b 13 (demand c 14 rest))
     go true true true = refl
     go true true false = refl
     go true false c = refl
     go false b c = refl
 
-pub node-is : (rd : Reader) (s : List Tree) (n r : ℕ) → r ≡ orElse (formFault rd s n) (fitFault rd s n) → r ≡ nodeFault rd s n
-node-is rd s n r e = e ∙ both-faults rd s n
+pub node-is : (rd : Reader) (s : List Tree) (n r : ℕ) (node : References) → ReferencesAre rd n node →
+    r ≡ orElse (formFault rd s node) (fitFault rd s (node .kind) (node .first)) → r ≡ nodeFault rd s n
+node-is rd s n r node is e = e ∙ both-faults rd s n node is
 
 -- The ways out of `tree_atom`.
 module _ (rd : Reader) (i : ℕ) where
@@ -98,17 +115,17 @@ twice true = refl
 twice false = refl
 
 -- The ways out of `constant_fresh`.
-module _ (rd : Reader) (s : List Tree) (n k : ℕ) (ek : k ≡ rd n 0) where
-  pub fresh-other : (k ≡ 43 → ⊥) → true ≡ every (isFresh s) (rowOf rd n .fresh)
-  unfolding rowOf every
-  fresh-other h = rw (← ek, fresh-none (map (tree rd) (parts rd n)) k h) refl
+module _ (rd : Reader) (s : List Tree) (k c : ℕ) where
+  pub fresh-other : (k ≡ 43 → ⊥) → true ≡ every (isFresh s) (row k (itemTrees rd c) .fresh)
+  unfolding every
+  fresh-other h = rw (fresh-none (itemTrees rd c) k h) refl
 
-  pub fresh-constant : k ≡ 43 → (p c : ℕ) (r : Bool) → p ≡ partRecord rd n 1 → c ≡ atomOf (tree rd p) → r ≡ isFresh s c → r ≡ every (isFresh s) (rowOf rd n .fresh)
-  unfolding rowOf every partTrees
-  fresh-constant h p c r ep ec e =
-      let own : atomOf (part (partTrees rd n) 1) ≡ c = ap atomOf (part-tree rd n 1 ∙ ap (tree rd) (sym ep)) ∙ sym ec in
-      rw (← ek, h, fresh-43 (map (tree rd) (parts rd n)))
-      (e ∙ ap (isFresh s) (sym own) ∙ sym (once (isFresh s (atomOf (part (partTrees rd n) 1)))))
+  pub fresh-constant : k ≡ 43 → (p a : ℕ) (r : Bool) → p ≡ itemAt rd c 1 → a ≡ atomOf (tree rd p) → r ≡ isFresh s a → r ≡ every (isFresh s) (row k (itemTrees rd c) .fresh)
+  unfolding every
+  fresh-constant h p a r ep ea e =
+      let own : atomOf (part (itemTrees rd c) 1) ≡ a = ap atomOf (part-tree rd c 1 ∙ ap (tree rd) (sym ep)) ∙ sym ea in
+      rw (h, fresh-43 (itemTrees rd c))
+      (e ∙ ap (isFresh s) (sym own) ∙ sym (once (isFresh s (atomOf (part (itemTrees rd c) 1)))))
 
 -- a rule without premises, and no rule, ask no room
 most-none : (k : ℕ) → NoRule k → mostAdded k ≡ 0
@@ -169,13 +186,18 @@ unfolding roomFor
 room-test h k a e = rw (e .0) refl
 
 -- the sequent's length is the number of keys
-pub room-of : (rd : Reader) (numbers memory scratch : List ℕ) (h n k : ℕ) (r : Bool) → At rd numbers memory scratch h n → k ≡ rd n 0 → r ≡ roomFor h k →
-    r ≡ hasRoom (sequent rd memory h) (rowOf rd n .adds)
-unfolding rowOf
-room-of rd numbers memory scratch h n k r here ek e =
+pub room-of : (rd : Reader) (numbers memory scratch : List ℕ) (h k c : ℕ) (r : Bool) → At rd numbers memory scratch h c → r ≡ roomFor h k →
+    r ≡ hasRoom (sequent rd memory h) (row k (itemTrees rd c) .adds)
+room-of rd numbers memory scratch h k c r here e =
     let size : length (sequent rd memory h) ≡ h = sequent-length rd memory h (in-memory rd numbers memory h (here .ready)) in
     let low : h ≤ 1024 = here .ready .low in
-    rw (room-is (sequent rd memory h) (map (tree rd) (parts rd n)) (omega arith) (rd n 0), size, ← ek) e
+    rw (room-is (sequent rd memory h) (itemTrees rd c) (omega arith) k, size) e
+
+-- the parts of a node stand below it
+pub at-parts : (rd : Reader) (numbers memory scratch : List ℕ) (h n : ℕ) (node : References) → At rd numbers memory scratch h n → ReferencesAre rd n node →
+    At rd numbers memory scratch h (node .first)
+at-parts rd numbers memory scratch h n node here is =
+    record { ready = here .ready; within = parts-in rd n (length numbers) node (here .within) is; marks = here .marks; blank = here .blank }
 
 pub at-low : (rd : Reader) (numbers memory scratch : List ℕ) (h n : ℕ) → At rd numbers memory scratch h n → h ≤ 1024
 at-low rd numbers memory scratch h n here = here .ready .low

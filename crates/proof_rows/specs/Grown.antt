@@ -1,22 +1,27 @@
 -- A sequent with the members that a premise adds.
-use Prim.Native.Nat.{ℕ, _+_, _-_, _/_, _%_, _<_, _≤_}
+use Prim.Native.Nat.{ℕ, zero, suc, _+_, _-_, _<_, _≤_}
 use mathlib.Core.Path.{_≡_, refl, sym, ap, _∙_}
 use mathlib.Core.List.{List, [], _∷_, _++_, append-assoc, append-nil}
 use mathlib.Core.Bool.{Bool, true, false}
 use lib.Dec.{eqb}
-use lib.ListN.{length, take, drop, getD, length-append}
+use lib.ListN.{length, take, drop, getD, set, length-append}
 use lib.Seq.{take-take, drop-drop}
 use native.Mathlib.Omega.{arith}
 use borrow.Author.Tests.{eq-eqb, ne-eqb}
 use Rattle.reader.specs.Words.{Reader}
 use Rattle.reader.specs.Tests.{ifEq}
-use Rattle.reader.specs.Trees.{Tree, tree, ¬ᵗ_, _=ᵗ_}
+use Rattle.reader.specs.Trees.{Tree}
+use Rattle.reader.specs.TreeLaws.{lower-below}
+use Rattle.reader.specs.Chains.{itemTrees}
+use Rattle.reader_chains.specs.Shapes.{lower-zero}
+use Rattle.proof_references.specs.declared.References.{References}
+use Rattle.proof_references.specs.References.{ReferencesAre}
 use Rattle.proof_rules.specs.Check.{rowOf}
 use Rattle.proof_members.specs.Sequents.{sequent, Ready}
-use Rattle.proof_members.specs.Added.{Added}
-use Rattle.proof_rows.specs.Paths.{pathRecord, partTrees}
-use Rattle.proof_rows.specs.Forms.{leftPath, rightPath, formTree, oneTree, twoTrees, form-unequal, form-negated, form-plain}
-use Rattle.proof_rows.specs.Tables.{addForm, adds-of}
+use Rattle.proof_members.specs.Keys.{Stands}
+use Rattle.proof_members.specs.Added.{Added, stored}
+use Rattle.proof_rows.specs.Forms.{formTree, oneTree, twoTrees}
+use Rattle.proof_rows.specs.Tables.{half, pairIn, addPair, adds-of}
 
 -- after the trees were added to h members there are r; the memory is else as it was
 pub record Grown (rd : Reader) (numbers before : List ℕ) (h : ℕ) (trees : List Tree) (after : List ℕ) (r : ℕ) : Type 0 where
@@ -52,21 +57,25 @@ two-length treeOf first last =
     omega (arith, length-append (oneTree treeOf first) (oneTree treeOf last), one-length treeOf first, one-length treeOf last)
 
 -- The ways out of `add_one`.
-module _ (rd : Reader) (numbers before : List ℕ) (h n form : ℕ) where
-  pub grown-none : Ready rd numbers before h → form ≡ 0 → Grown rd numbers before h (oneTree (formTree (partTrees rd n)) form) before h
-  grown-none ready z =
-      rw (one-none (formTree (partTrees rd n)) form z)
+module _ (rd : Reader) (numbers before : List ℕ) (h form : ℕ) where
+  pub grown-none : (treeOf : ℕ → Tree) → Ready rd numbers before h → form ≡ 0 → Grown rd numbers before h (oneTree treeOf form) before h
+  grown-none treeOf ready z =
+      rw (one-none treeOf form z)
       (record { ready = ready; more = sym (append-nil (sequent rd before h)); kept = refl; count = omega arith; rest = refl })
 
-  pub grown-one : (after : List ℕ) → (form ≡ 0 → ⊥) → Added rd numbers before h (formTree (partTrees rd n) form) after →
-      Grown rd numbers before h (oneTree (formTree (partTrees rd n)) form) after (h + 1)
-  grown-one after z added =
-      rw (one-some (formTree (partTrees rd n)) form z)
-      (record { ready = added .ready; more = added .more; kept = added .kept; count = refl; rest = added .rest })
-
-  pub room-one : (form ≡ 0 → ⊥) → h + formCount form ≤ 1024 → h < 1024
+  room-one : (form ≡ 0 → ⊥) → h + formCount form ≤ 1024 → h < 1024
   unfolding formCount ifEq
   room-one z p = let one : formCount form ≡ 1 = simp (formCount, ifEq, ne-eqb form 0 z) in omega arith
+
+  pub room-here : Ready rd numbers before h → (form ≡ 0 → ⊥) → h + formCount form ≤ 1024 → h < length before
+  room-here ready z p = omega (arith, room-one z p, ready .long)
+
+  pub grown-one : (treeOf : ℕ → Tree) (key : ℕ) → Ready rd numbers before h → (form ≡ 0 → ⊥) → h + formCount form ≤ 1024 → Stands rd (length numbers) key (treeOf form) →
+      Grown rd numbers before h (oneTree treeOf form) (set before h key) (h + 1)
+  grown-one treeOf key ready z room stands =
+      let added : Added rd numbers before h (treeOf form) (set before h key) = stored rd numbers before h key (treeOf form) ready (room-one z room) stands in
+      rw (one-some treeOf form z)
+      (record { ready = added .ready; more = added .more; kept = added .kept; count = refl; rest = added .rest })
 
 -- two after each other
 pub grown-two : (rd : Reader) (numbers a b c : List ℕ) (h i j : ℕ) (s t : List Tree) → Grown rd numbers a h s b i → Grown rd numbers b i t c j →
@@ -83,39 +92,26 @@ grown-two rd numbers a b c h i j s t f g =
       rest = g .rest ∙ ap (λ (x : ℕ). drop x b) e ∙ past ∙ ap (λ (x : ℕ). drop x a) (sym e);
     }
 
--- what premise b of node n adds
-pub premise-grown : (rd : Reader) (numbers before after : List ℕ) (h n b k first last r : ℕ) → k ≡ rd n 0 → first ≡ addForm k b 0 → last ≡ addForm k b 1 →
-    Grown rd numbers before h (twoTrees (formTree (partTrees rd n)) first last) after r →
-    Grown rd numbers before h (getD (rowOf rd n .adds) b []) after r
-premise-grown rd numbers before after h n b k first last r ek ef el g = rw (adds-of rd n b, ← ek, ← ef, ← el) g
-
--- the room that a premise's members need
-module _ (rd : Reader) (n b k first last h : ℕ) (ek : k ≡ rd n 0) (ef : first ≡ addForm k b 0) (el : last ≡ addForm k b 1)
-    (room : h + length (getD (rowOf rd n .adds) b []) ≤ 1024) where
-  both-counted : length (getD (rowOf rd n .adds) b []) ≡ formCount first + formCount last
-  both-counted = rw (adds-of rd n b, ← ek, ← ef, ← el) (two-length (formTree (partTrees rd n)) first last)
-
-  pub room-first : h + formCount first ≤ 1024
-  room-first = omega (arith, both-counted)
-
-  pub room-last : (numbers before after : List ℕ) (i : ℕ) → Grown rd numbers before h (oneTree (formTree (partTrees rd n)) first) after i → i + formCount last ≤ 1024
-  room-last numbers before after i g = omega (arith, both-counted, g .count, one-length (formTree (partTrees rd n)) first)
-
-  pub premise-added : (numbers before between after : List ℕ) (i r : ℕ) → Grown rd numbers before h (oneTree (formTree (partTrees rd n)) first) between i →
-      Grown rd numbers between i (oneTree (formTree (partTrees rd n)) last) after r → Grown rd numbers before h (getD (rowOf rd n .adds) b []) after r
+-- The ways out of `add_premise`.
+module _ (rd : Reader) (n b : ℕ) (node : References) (is : ReferencesAre rd n node) (pair first last : ℕ) (ep : pairIn pair ≡ addPair (node .kind) b) (ef : first ≡ half pair 0)
+    (el : last ≡ half pair 1) (h : ℕ) where
+  pub premise-added : (numbers before between after : List ℕ) (i r : ℕ) → Grown rd numbers before h (oneTree (formTree (itemTrees rd (node .first))) first) between i →
+      Grown rd numbers between i (oneTree (formTree (itemTrees rd (node .first))) last) after r → Grown rd numbers before h (getD (rowOf rd n .adds) b []) after r
   unfolding twoTrees
   premise-added numbers before between after i r f g =
-      premise-grown rd numbers before after h n b k first last r ek ef el (grown-two rd numbers before between after h i r _ _ f g)
+      rw (adds-of rd n b node is pair first last ep ef el) (grown-two rd numbers before between after h i r _ _ f g)
 
--- The ways out of `add_form`.
-module _ (rd : Reader) (numbers before after : List ℕ) (h n form : ℕ) where
-  pub added-unequal : form < 8 → (a b t u : ℕ) → a ≡ leftPath form → b ≡ rightPath form → t ≡ pathRecord rd n a → u ≡ pathRecord rd n b →
-      Added rd numbers before h (¬ᵗ (tree rd t =ᵗ tree rd u)) after → Added rd numbers before h (formTree (partTrees rd n) form) after
-  added-unequal l a b t u ea eb et eu added = rw (← form-unequal rd n form l a b t u ea eb et eu) added
+  module _ (room : h + length (getD (rowOf rd n .adds) b []) ≤ 1024) where
+    both-counted : length (getD (rowOf rd n .adds) b []) ≡ formCount first + formCount last
+    both-counted = rw (adds-of rd n b node is pair first last ep ef el) (two-length (formTree (itemTrees rd (node .first))) first last)
 
-  module _ (high : 8 ≤ form) (x : ℕ) (ex : x ≡ pathRecord rd n ((form - 8) / 2)) where
-    pub added-negated : form % 2 ≡ 1 → Added rd numbers before h (¬ᵗ (tree rd x)) after → Added rd numbers before h (formTree (partTrees rd n) form) after
-    added-negated e added = rw (← form-negated rd n form high x ex e) added
+    pub room-first : h + formCount first ≤ 1024
+    room-first = omega (arith, both-counted)
 
-    pub added-plain : (form % 2 ≡ 1 → ⊥) → Added rd numbers before h (tree rd x) after → Added rd numbers before h (formTree (partTrees rd n) form) after
-    added-plain e added = rw (← form-plain rd n form high x ex e) added
+    pub room-last : (numbers before after : List ℕ) (i : ℕ) → Grown rd numbers before h (oneTree (formTree (itemTrees rd (node .first))) first) after i → i + formCount last ≤ 1024
+    room-last numbers before after i g = omega (arith, both-counted, g .count, one-length (formTree (itemTrees rd (node .first))) first)
+
+-- the parts of a node that is in the table are in it
+pub parts-in : (rd : Reader) (n size : ℕ) (node : References) → n < size → ReferencesAre rd n node → node .first < size
+parts-in rd zero size node h is = omega (arith, is .first-is, lower-zero rd 1)
+parts-in rd (suc n) size node h is = omega (arith, is .first-is, lower-below rd (suc n) 1 (omega arith))

@@ -1,69 +1,64 @@
--- What a rule names of its parts, as a number: 9 times the part, and two steps to children, the first times 3.
+-- What a rule names of its parts, as a number: 16 times the part, and two steps to children, the first times 4.
 use Prim.Native.Nat.{ℕ, zero, suc, _/_, _%_, _<_, _≤_}
-use mathlib.Core.Path.{_≡_, refl, sym, ap, _∙_}
-use mathlib.Core.List.{List, map}
+use mathlib.Core.Path.{_≡_, refl, ap, _∙_}
+use mathlib.Core.List.{List}
 use mathlib.Core.Bool.{Bool, true, false}
 use lib.Dec.{eqb}
-use lib.ListN.{getD}
 use native.Mathlib.Omega.{arith}
-use borrow.Author.Tests.{eqb-true, eqb-false}
+use borrow.Author.Tests.{eq-eqb, ne-eqb}
 use Rattle.reader.specs.Words.{Reader}
-use Rattle.reader.specs.Tests.{ifEq}
-use Rattle.reader.specs.Trees.{Tree, leaf, lower, child, tree, firstOf, secondOf}
-use Rattle.reader.specs.Chains.{itemTrees, parts}
-use Rattle.reader.specs.TreeLaws.{child-below, lower-below, tree-zero}
+use Rattle.reader.specs.Tests.{ifEq, ifLt}
+use Rattle.reader.specs.Kinds.{role, roleAt}
+use Rattle.reader.specs.Trees.{Tree, lower, child, tree, firstOf, secondOf}
+use Rattle.reader.specs.Chains.{itemTrees}
+use Rattle.reader.specs.TreeLaws.{child-below, lower-below}
 use Rattle.reader.specs.Members.{part}
 use Rattle.reader_chains.specs.Shapes.{lower-zero, child-zero, first-tree, second-tree}
-use Rattle.reader_chains.specs.Chains.{linkAt, itemAt, link-none, link-first, link-next, item-tree, item-past}
+use Rattle.reader_chains.specs.Chains.{linkAt, itemAt, link-none, link-first, link-next, item-or-leaf}
+use Rattle.proof_references.specs.declared.References.{References}
+use Rattle.proof_references.specs.References.{ReferencesAre}
 
 -- a tree itself, its first part, its second
 unfoldable pub stepTree : ℕ → Tree → Tree
 stepTree a t = ifEq a 0 t (ifEq a 1 (firstOf t) (secondOf t))
 
 unfoldable pub pathTree : List Tree → ℕ → Tree
-pathTree ps p = stepTree (p % 3) (stepTree (p / 3 % 3) (part ps (p / 9)))
+pathTree ps p = stepTree (p % 4) (stepTree (p / 4 % 4) (part ps (p / 16)))
 
--- the same as records
+-- the same as records, in the parts of chain c
 unfoldable pub stepRecord : Reader → ℕ → ℕ → ℕ
-stepRecord rd i a = ifEq a 0 i (child rd i a)
-
-unfoldable pub partRecord : Reader → ℕ → ℕ → ℕ
-partRecord rd n j = itemAt rd (lower rd n 1) j
+stepRecord rd i a = ifEq a 0 i (ifEq a 1 (child rd i 1) (child rd i 2))
 
 unfoldable pub pathRecord : Reader → ℕ → ℕ → ℕ
-pathRecord rd n p = stepRecord rd (stepRecord rd (partRecord rd n (p / 9)) (p / 3 % 3)) (p % 3)
+pathRecord rd c p = stepRecord rd (stepRecord rd (itemAt rd c (p / 16)) (p / 4 % 4)) (p % 4)
 
--- the trees of a node's parts
-unfoldable pub partTrees : Reader → ℕ → List Tree
-partTrees rd n = map (tree rd) (parts rd n)
+-- the first child of a record that was fetched, or else its second
+unfoldable pub childIn : References → ℕ → ℕ
+childIn x a = ifEq a 1 (ifLt (role (x .kind) 1) 10 0 (x .first)) (ifLt (role (x .kind) 2) 10 0 (x .second))
 
 -- part j is the tree of its record
-pub part-tree : (rd : Reader) (n j : ℕ) → part (partTrees rd n) j ≡ tree rd (partRecord rd n j)
-unfolding partTrees parts partRecord itemTrees itemAt
-part-tree rd n j = go (eqb (linkAt rd (lower rd n 1) j) 0) refl
-  where
-    go : (b : Bool) → eqb (linkAt rd (lower rd n 1) j) 0 ≡ b → getD (itemTrees rd (lower rd n 1)) j leaf ≡ tree rd (itemAt rd (lower rd n 1) j)
-    go true e =
-        let none : linkAt rd (lower rd n 1) j ≡ 0 = eqb-true (linkAt rd (lower rd n 1) j) 0 e in
-        item-past rd j (lower rd n 1) leaf none ∙ sym (rw (none, lower-zero rd 1) (tree-zero rd))
-    go false e = item-tree rd j (lower rd n 1) leaf (eqb-false (linkAt rd (lower rd n 1) j) 0 e)
+pub part-tree : (rd : Reader) (c j : ℕ) → part (itemTrees rd c) j ≡ tree rd (itemAt rd c j)
+part-tree rd c j = item-or-leaf rd j c
 
-step-tree : (rd : Reader) (i a : ℕ) → a < 3 → stepTree a (tree rd i) ≡ tree rd (stepRecord rd i a)
+step-tree : (rd : Reader) (i a : ℕ) → stepTree a (tree rd i) ≡ tree rd (stepRecord rd i a)
 unfolding stepTree stepRecord ifEq
-step-tree rd i zero h = refl
-step-tree rd i (suc zero) h = first-tree rd i
-step-tree rd i (suc (suc zero)) h = second-tree rd i
-step-tree rd i (suc (suc (suc a))) h = absurd (omega arith)
+step-tree rd i a = go (eqb a 0) (eqb a 1)
+  where
+    go : (b d : Bool) → elim b as (λ x. Tree) [ true ↦ tree rd i | false ↦ elim d [ true ↦ firstOf (tree rd i) | false ↦ secondOf (tree rd i) ] ] ≡
+        tree rd (elim b as (λ x. ℕ) [ true ↦ i | false ↦ elim d [ true ↦ child rd i 1 | false ↦ child rd i 2 ] ])
+    go true d = refl
+    go false true = first-tree rd i
+    go false false = second-tree rd i
 
 -- what stands on a path is the tree of its record
-pub path-tree : (rd : Reader) (n p : ℕ) → pathTree (partTrees rd n) p ≡ tree rd (pathRecord rd n p)
+pub path-tree : (rd : Reader) (c p : ℕ) → pathTree (itemTrees rd c) p ≡ tree rd (pathRecord rd c p)
 unfolding pathTree pathRecord
-path-tree rd n p =
-    ap (λ (t : Tree). stepTree (p % 3) (stepTree (p / 3 % 3) t)) (part-tree rd n (p / 9))
-    ∙ ap (stepTree (p % 3)) (step-tree rd (partRecord rd n (p / 9)) (p / 3 % 3) (omega arith))
-    ∙ step-tree rd (stepRecord rd (partRecord rd n (p / 9)) (p / 3 % 3)) (p % 3) (omega arith)
+path-tree rd c p =
+    ap (λ (t : Tree). stepTree (p % 4) (stepTree (p / 4 % 4) t)) (part-tree rd c (p / 16))
+    ∙ ap (stepTree (p % 4)) (step-tree rd (itemAt rd c (p / 16)) (p / 4 % 4))
+    ∙ step-tree rd (stepRecord rd (itemAt rd c (p / 16)) (p / 4 % 4)) (p % 4)
 
--- no record on a path is larger than the node
+-- no record on a path is larger than the chain
 lower-most : (rd : Reader) (i w : ℕ) → lower rd i w ≤ i
 lower-most rd zero w = omega (arith, lower-zero rd w)
 lower-most rd (suc i) w = omega (arith, lower-below rd (suc i) w (omega arith))
@@ -78,31 +73,48 @@ link-most rd (suc j) zero = omega (arith, link-none rd (suc j))
 link-most rd (suc j) (suc c) =
     omega (arith, link-next rd (suc c) j (omega arith), link-most rd j (lower rd (suc c) 3), lower-below rd (suc c) 3 (omega arith))
 
-pub part-most : (rd : Reader) (n j : ℕ) → partRecord rd n j ≤ n
-unfolding partRecord itemAt
-part-most rd n j = omega (arith, lower-most rd n 1, link-most rd j (lower rd n 1), lower-most rd (linkAt rd (lower rd n 1) j) 1)
+item-most : (rd : Reader) (c j : ℕ) → itemAt rd c j ≤ c
+unfolding itemAt
+item-most rd c j = omega (arith, link-most rd j c, lower-most rd (linkAt rd c j) 1)
 
 step-most : (rd : Reader) (i a : ℕ) → stepRecord rd i a ≤ i
 unfolding stepRecord ifEq
-step-most rd i a = go (eqb a 0)
+step-most rd i a = go (eqb a 0) (eqb a 1)
   where
-    go : (b : Bool) → elim b as (λ x. ℕ) [ true ↦ i | false ↦ child rd i a ] ≤ i
-    go true = omega arith
-    go false = child-most rd i a
+    go : (b d : Bool) → elim b as (λ x. ℕ) [ true ↦ i | false ↦ elim d [ true ↦ child rd i 1 | false ↦ child rd i 2 ] ] ≤ i
+    go true d = omega arith
+    go false true = child-most rd i 1
+    go false false = child-most rd i 2
 
-pub path-most : (rd : Reader) (n p : ℕ) → pathRecord rd n p ≤ n
+path-most : (rd : Reader) (c p : ℕ) → pathRecord rd c p ≤ c
 unfolding pathRecord
-path-most rd n p =
-    omega (arith, part-most rd n (p / 9), step-most rd (partRecord rd n (p / 9)) (p / 3 % 3), step-most rd (stepRecord rd (partRecord rd n (p / 9)) (p / 3 % 3)) (p % 3))
+path-most rd c p =
+    omega (arith, item-most rd c (p / 16), step-most rd (itemAt rd c (p / 16)) (p / 4 % 4), step-most rd (stepRecord rd (itemAt rd c (p / 16)) (p / 4 % 4)) (p % 4))
 
-pub path-in : (rd : Reader) (n p r size : ℕ) → n < size → r ≡ pathRecord rd n p → r < size
-path-in rd n p r size h e = omega (arith, path-most rd n p)
+pub path-in : (rd : Reader) (c p r size : ℕ) → c < size → r ≡ pathRecord rd c p → r < size
+path-in rd c p r size h e = omega (arith, path-most rd c p)
 
 -- The ways out of the code.
-pub part-is : (rd : Reader) (n j c r : ℕ) → c ≡ lower rd n 1 → r ≡ itemAt rd c j → r ≡ partRecord rd n j
-unfolding partRecord
-part-is rd n j c r ec e = rw (← ec) e
+module _ (x : References) (a role₀ r : ℕ) where
+  pub child-first : a ≡ 1 → role₀ ≡ role (x .kind) 1 → r ≡ ifLt role₀ 10 0 (x .first) → r ≡ childIn x a
+  unfolding childIn ifEq
+  child-first h q e = simp (childIn, ifEq, eq-eqb a 1 h, ← q) e
 
-pub path-is : (rd : Reader) (n p a b r : ℕ) → a ≡ partRecord rd n (p / 9) → b ≡ stepRecord rd a (p / 3 % 3) → r ≡ stepRecord rd b (p % 3) → r ≡ pathRecord rd n p
+  pub child-second : (a ≡ 1 → ⊥) → role₀ ≡ role (x .kind) 2 → r ≡ ifLt role₀ 10 0 (x .second) → r ≡ childIn x a
+  unfolding childIn ifEq
+  child-second h q e = simp (childIn, ifEq, ne-eqb a 1 h, ← q) e
+
+module _ (rd : Reader) (i a : ℕ) where
+  pub step-none : a ≡ 0 → i ≡ stepRecord rd i a
+  unfolding stepRecord ifEq
+  step-none h = simp (stepRecord, ifEq, eq-eqb a 0 h)
+
+  pub step-child : (x : References) (r : ℕ) → (a ≡ 0 → ⊥) → ReferencesAre rd i x → r ≡ childIn x a → r ≡ stepRecord rd i a
+  unfolding stepRecord childIn child roleAt ifEq
+  step-child x r h is e =
+      let here : childIn x a ≡ ifEq a 1 (child rd i 1) (child rd i 2) = rw (is .kind-is, is .first-is, is .second-is) refl in
+      simp (stepRecord, ifEq, ne-eqb a 0 h) (e ∙ here)
+
+pub path-is : (rd : Reader) (c p x y r : ℕ) → x ≡ itemAt rd c (p / 16) → y ≡ stepRecord rd x (p / 4 % 4) → r ≡ stepRecord rd y (p % 4) → r ≡ pathRecord rd c p
 unfolding pathRecord
-path-is rd n p a b r ea eb e = rw (← ea, ← eb) e
+path-is rd c p x y r ex ey e = rw (← ex, ← ey) e

@@ -2,10 +2,10 @@
 use Prim.Native.Nat.{ℕ, zero, suc, _+_, _*_, _-_, _/_, _%_, _<_, _≤_}
 use mathlib.Core.Path.{_≡_, refl, sym, ap, _∙_}
 use mathlib.Core.List.{List, [], _∷_}
-use mathlib.Core.Bool.{Bool}
-use lib.ListN.{getD, length}
+use mathlib.Core.Bool.{Bool, true, false, not}
+use lib.ListN.{getD, length, take, drop}
 use native.Mathlib.Omega.{arith}
-use borrow.Author.Tests.{le-ltb}
+use borrow.Author.Tests.{le-ltb, not-true, not-false}
 use Rattle.reader.specs.Words.{Reader}
 use Rattle.reader.specs.Tests.{both, every, ifEq, ifLt}
 use Rattle.reader.specs.TestLaws.{Rest}
@@ -15,26 +15,29 @@ use Rattle.proof_rules.specs.RowLaws.{row-none, by-rule}
 use Rattle.proof_rules.specs.Check.{rowOf}
 use Rattle.reader.specs.Members.{member}
 use Rattle.proof_forms.specs.Tables.{ruleEntry, entry-none, entry-rest}
-use Rattle.proof_rows.specs.Paths.{stepTree, pathTree, partTrees}
-use Rattle.proof_rows.specs.Forms.{leftPath, rightPath, formTree, needTree, oneTree, twoTrees, needHolds, two-hold}
+use Rattle.reader.specs.Chains.{itemTrees, parts}
+use Rattle.proof_references.specs.declared.References.{References}
+use Rattle.proof_references.specs.References.{ReferencesAre}
+use Rattle.proof_rows.specs.Paths.{stepTree, pathTree}
+use Rattle.proof_rows.specs.Forms.{leftPath, rightPath, formTree, needTree, oneTree, twoTrees, needHolds, two-hold, need-none, need-some}
 
 abbrev pub needs : List ℕ
 needs =
-    1 ∷ 0 ∷ 2 ∷ 0 ∷ 8 ∷ 9 ∷ 8 ∷ 0 ∷ 8 ∷ 3 ∷ 0 ∷ 0 ∷ 8 ∷ 0 ∷ 8 ∷ 0 ∷ 8 ∷ 0 ∷ 8 ∷ 0 ∷ 8 ∷ 0 ∷ 8 ∷ 0 ∷ 8 ∷ 0 ∷ 8 ∷ 0 ∷ 62 ∷ 0 ∷ []
+    1 ∷ 0 ∷ 2 ∷ 0 ∷ 8 ∷ 9 ∷ 8 ∷ 0 ∷ 8 ∷ 3 ∷ 0 ∷ 0 ∷ 8 ∷ 0 ∷ 8 ∷ 0 ∷ 8 ∷ 0 ∷ 8 ∷ 0 ∷ 8 ∷ 0 ∷ 8 ∷ 0 ∷ 8 ∷ 0 ∷ 8 ∷ 0 ∷ 104 ∷ 0 ∷ []
 
 abbrev pub adds : List ℕ
 adds =
     0 ∷ 0 ∷ 0 ∷ 0 ∷ 0 ∷ 0 ∷ 0 ∷ 0 ∷ 0 ∷ 0 ∷ 0 ∷ 0 ∷ 0 ∷ 0 ∷ 0 ∷ 0 ∷ 0 ∷ 0 ∷ 0 ∷ 0 ∷  -- 32 to 36
     8 ∷ 0 ∷ 9 ∷ 0 ∷  -- 37
-    16 ∷ 0 ∷ 0 ∷ 0 ∷  -- 38
-    14 ∷ 20 ∷ 0 ∷ 0 ∷  -- 39
-    16 ∷ 19 ∷ 0 ∷ 0 ∷  -- 40
-    15 ∷ 0 ∷ 20 ∷ 0 ∷  -- 41
-    17 ∷ 0 ∷ 19 ∷ 0 ∷  -- 42
-    45 ∷ 0 ∷ 0 ∷ 0 ∷  -- 43
-    44 ∷ 0 ∷ 0 ∷ 0 ∷  -- 44
-    26 ∷ 0 ∷ 0 ∷ 0 ∷  -- 45
-    4 ∷ 0 ∷ 80 ∷ 0 ∷ []  -- 46
+    18 ∷ 0 ∷ 0 ∷ 0 ∷  -- 38
+    16 ∷ 24 ∷ 0 ∷ 0 ∷  -- 39
+    18 ∷ 21 ∷ 0 ∷ 0 ∷  -- 40
+    17 ∷ 0 ∷ 24 ∷ 0 ∷  -- 41
+    19 ∷ 0 ∷ 21 ∷ 0 ∷  -- 42
+    73 ∷ 0 ∷ 0 ∷ 0 ∷  -- 43
+    72 ∷ 0 ∷ 0 ∷ 0 ∷  -- 44
+    40 ∷ 0 ∷ 0 ∷ 0 ∷  -- 45
+    4 ∷ 0 ∷ 136 ∷ 0 ∷ []  -- 46
 
 -- need w of rule k
 unfoldable pub needForm : ℕ → ℕ → ℕ
@@ -110,8 +113,8 @@ adds-are ps k (suc (suc b)) =
 unfoldable pub half : ℕ → ℕ → ℕ
 half n w = ifEq w 0 (n / 256) (n % 256)
 
-unfoldable pub needsIn : ℕ → List ℕ
-needsIn n = half n 0 ∷ half n 1 ∷ []
+unfoldable pub pairIn : ℕ → List ℕ
+pairIn n = half n 0 ∷ half n 1 ∷ []
 
 unfoldable pub addsIn : ℕ → List ℕ
 addsIn n = half (n / 65536) 0 ∷ half (n / 65536) 1 ∷ half (n % 65536) 0 ∷ half (n % 65536) 1 ∷ []
@@ -122,28 +125,27 @@ needForms k = needForm k 0 ∷ needForm k 1 ∷ []
 unfoldable pub addForms : ℕ → List ℕ
 addForms k = addForm k 0 0 ∷ addForm k 0 1 ∷ addForm k 1 0 ∷ addForm k 1 1 ∷ []
 
-by-half : (w : ℕ) (P : ℕ → Type 0) → P 0 → P 1 → w < 2 → P w
-by-half zero P p q h = p
-by-half (suc zero) P p q h = q
-by-half (suc (suc w)) P p q h = absurd (omega arith)
+unfoldable pub addPair : ℕ → ℕ → List ℕ
+addPair k b = addForm k b 0 ∷ addForm k b 1 ∷ []
 
-module _ (k n w : ℕ) where
-  pub need-half : needsIn n ≡ needForms k → w < 2 → half n w ≡ needForm k w
-  unfolding needsIn needForms
-  need-half e h = by-half w (λ (v : ℕ). half n v ≡ needForm k v) (ap (λ (l : List ℕ). getD l 0 0) e) (ap (λ (l : List ℕ). getD l 1 0) e) h
+-- the two members of premise b
+module _ (k n b : ℕ) where
+  pub pair-past : 2 ≤ b → pairIn 0 ≡ addPair k b
+  unfolding pairIn addPair half ifEq
+  pair-past h = rw (← add-past k b 0 h, ← add-past k b 1 h) refl
 
-  pub add-first : addsIn n ≡ addForms k → w < 2 → half (n / 65536) w ≡ addForm k 0 w
-  unfolding addsIn addForms
-  add-first e h = by-half w (λ (v : ℕ). half (n / 65536) v ≡ addForm k 0 v) (ap (λ (l : List ℕ). getD l 0 0) e) (ap (λ (l : List ℕ). getD l 1 0) e) h
+  pub pair-first : addsIn n ≡ addForms k → b ≡ 0 → pairIn (n / 65536) ≡ addPair k b
+  unfolding pairIn addPair addsIn addForms
+  pair-first e z = rw z (ap (take 2) e)
 
-  pub add-last : addsIn n ≡ addForms k → w < 2 → half (n % 65536) w ≡ addForm k 1 w
-  unfolding addsIn addForms
-  add-last e h = by-half w (λ (v : ℕ). half (n % 65536) v ≡ addForm k 1 v) (ap (λ (l : List ℕ). getD l 2 0) e) (ap (λ (l : List ℕ). getD l 3 0) e) h
+  pub pair-last : addsIn n ≡ addForms k → b < 2 → (b ≡ 0 → ⊥) → pairIn (n % 65536) ≡ addPair k b
+  unfolding pairIn addPair addsIn addForms
+  pair-last e h z = let one : b ≡ 1 = omega arith in rw one (ap (drop 2) e)
 
 -- the last arm: no rule needs or adds nothing
 module _ (k : ℕ) (rest : Rest 32 k 15) where
-  pub needs-rest : needsIn 0 ≡ needForms k
-  unfolding needsIn needForms half needForm ifEq
+  pub needs-rest : pairIn 0 ≡ needForms k
+  unfolding pairIn needForms half needForm ifEq
   needs-rest = rw (← entry-rest needs k (2 * (k - 32) + 0) rest, ← entry-rest needs k (2 * (k - 32) + 1) rest) refl
 
   pub adds-rest : addsIn 0 ≡ addForms k
@@ -156,17 +158,60 @@ module _ (k : ℕ) (rest : Rest 32 k 15) where
         ← entry-rest adds k (4 * (k - 32) + 2 * 1 + 1) rest,
       ) refl
 
--- the members that node n needs are all there
-unfoldable pub needsHold : Reader → List Tree → ℕ → Bool
-needsHold rd s n = every (λ t. member t s) (rowOf rd n .needs)
+-- the members that rule k needs with these parts are all there
+unfoldable pub needsHold : List Tree → ℕ → List Tree → Bool
+needsHold s k ps = every (λ t. member t s) (row k ps .needs)
 
-pub needs-of : (rd : Reader) (s : List Tree) (n k first last : ℕ) (r : Bool) → k ≡ rd n 0 → first ≡ needForm k 0 → last ≡ needForm k 1 →
-    r ≡ both (needHolds rd s n first) (needHolds rd s n last) → r ≡ needsHold rd s n
-unfolding needsHold rowOf partTrees
-needs-of rd s n k first last r ek ef el e =
-    rw (← ek, needs-are (partTrees rd n) k, ← ef, ← el, two-hold rd s n first last) e
+-- a rule whose first need asks nothing has no other
+second-none : (k : ℕ) → needForm k 0 ≡ 0 → needForm k 1 ≡ 0
+unfolding needForm ruleEntry ifLt
+second-none =
+    by-rule (λ k. needForm k 0 ≡ 0 → needForm k 1 ≡ 0)
+    (λ h. refl) (λ h. refl) (λ h. absurd (omega (arith, h))) (λ h. refl) (λ h. absurd (omega (arith, h)))
+    (λ h. refl) (λ h. refl) (λ h. refl) (λ h. refl) (λ h. refl)
+    (λ h. refl) (λ h. refl) (λ h. refl) (λ h. refl) (λ h. refl)
+    (λ k other h. entry-none needs k (2 * (k - 32) + 1) other)
+
+-- The ways out of `needs_hold`.
+module _ (s ps : List Tree) (k n first last : ℕ) (en : pairIn n ≡ needForms k) (ef : first ≡ half n 0) (el : last ≡ half n 1) where
+  first-is : first ≡ needForm k 0
+  unfolding pairIn needForms
+  first-is = ef ∙ ap (λ (l : List ℕ). getD l 0 0) en
+
+  last-is : last ≡ needForm k 1
+  unfolding pairIn needForms
+  last-is = el ∙ ap (λ (l : List ℕ). getD l 1 0) en
+
+  needs-both : needsHold s k ps ≡ both (needHolds s ps first) (needHolds s ps last)
+  unfolding needsHold
+  needs-both = rw (needs-are ps k, ← first-is, ← last-is) (two-hold s ps first last)
+
+  pub needs-none : first ≡ 0 → true ≡ needsHold s k ps
+  unfolding both
+  needs-none h =
+      let none : last ≡ 0 = last-is ∙ second-none k (sym first-is ∙ h) in
+      rw (needs-both, need-none s ps first h, need-none s ps last none) refl
+
+  module _ (some : first ≡ 0 → ⊥) (r : Bool) (er : r ≡ member (needTree ps first) s) where
+    pub needs-missing : not r ≡ true → false ≡ needsHold s k ps
+    unfolding both
+    needs-missing h = rw (needs-both, need-some s ps first some, ← er, not-true r h) refl
+
+    module _ (held : not r ≡ false) where
+      pub needs-one : last ≡ 0 → true ≡ needsHold s k ps
+      unfolding both
+      needs-one h = rw (needs-both, need-some s ps first some, ← er, not-false r held, need-none s ps last h) refl
+
+      pub needs-two : (last ≡ 0 → ⊥) → (q : Bool) → q ≡ member (needTree ps last) s → q ≡ needsHold s k ps
+      unfolding both
+      needs-two h q e = rw (needs-both, need-some s ps first some, ← er, not-false r held, need-some s ps last h) e
 
 -- the members that premise b of node n adds
-pub adds-of : (rd : Reader) (n b : ℕ) → getD (rowOf rd n .adds) b [] ≡ twoTrees (formTree (partTrees rd n)) (addForm (rd n 0) b 0) (addForm (rd n 0) b 1)
-unfolding rowOf partTrees
-adds-of rd n b = adds-are (partTrees rd n) (rd n 0) b
+module _ (rd : Reader) (n b : ℕ) (node : References) (is : ReferencesAre rd n node) (pair first last : ℕ) (ep : pairIn pair ≡ addPair (node .kind) b) (ef : first ≡ half pair 0)
+    (el : last ≡ half pair 1) where
+  pub adds-of : getD (rowOf rd n .adds) b [] ≡ twoTrees (formTree (itemTrees rd (node .first))) first last
+  unfolding rowOf parts itemTrees pairIn addPair
+  adds-of =
+      let f : first ≡ addForm (node .kind) b 0 = ef ∙ ap (λ (l : List ℕ). getD l 0 0) ep in
+      let l : last ≡ addForm (node .kind) b 1 = el ∙ ap (λ (l : List ℕ). getD l 1 0) ep in
+      rw (← is .kind-is, ← is .first-is, f, l) (adds-are (itemTrees rd (node .first)) (node .kind) b)

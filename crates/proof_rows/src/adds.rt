@@ -1,51 +1,20 @@
 // What a premise adds to the sequent.
-use crate::needs::left_path;
-use crate::needs::right_path;
-use crate::paths::path_record;
+use crate::forms;
 use crate::tables;
-use proof_members::add;
-use reader::words;
+use proof_references::references_of;
+ghost use mathlib.Core.Path.{_≡_};
 ghost use Prim.Native.Nat.{_+_, _<_, _≤_};
 ghost use mathlib.Core.List.{[]};
 ghost use lib.ListN.{length, getD};
 ghost use Rattle.reader.specs.Words.{word};
+ghost use Rattle.reader.specs.Chains.{itemTrees};
 ghost use Rattle.proof_rules.specs.Rules.{Row};
 ghost use Rattle.proof_rules.specs.Check.{rowOf};
 ghost use Rattle.proof_members.specs.Sequents.{Ready};
-ghost use Rattle.proof_members.specs.Added.{Added};
-ghost use Rattle.proof_rows.specs.Paths.{partTrees};
 ghost use Rattle.proof_rows.specs.Forms.{formTree, oneTree};
 ghost use Rattle.proof_rows.specs.Grown.{Grown, formCount};
 
-// Adds what the form says of node n.
-fn add_form(
-    obligation: &[u8],
-    second: &[u8],
-    m: usize,
-    numbers: &[usize],
-    memory: &mut [usize],
-    h: usize,
-    n: usize,
-    form: u8,
-)
-    requires { ⌜ Ready (word (now obligation) (now second) m) (now numbers) (now memory) h × (h < 1024) × (n < length (now numbers)) ⌝ }
-    ensures { λ _. ⌜ Added (word (now (obligation .entry)) (now (second .entry)) m) (now (numbers .entry)) (now (memory .entry)) h (formTree (partTrees (word (now (obligation .entry)) (now (second .entry)) m) n) form) (now (memory .exit)) ⌝ }
-{
-    if form < 8 {
-        let t = path_record(obligation, second, m, n, left_path(form));
-        let u = path_record(obligation, second, m, n, right_path(form));
-        add::add_unequal(obligation, second, m, numbers, memory, h, t, u);
-        return;
-    }
-    let x = path_record(obligation, second, m, n, (form - 8) / 2);
-    if form % 2 == 1 {
-        add::add_negated(obligation, second, m, numbers, memory, h, x);
-        return;
-    }
-    add::add_record(obligation, second, m, numbers, memory, h, x);
-}
-
-// Adds one member, or none where the form is 0; the number of members after it.
+// Adds what the form says of the parts in chain c, or nothing where it is 0; the number of members after it.
 fn add_one(
     obligation: &[u8],
     second: &[u8],
@@ -53,16 +22,16 @@ fn add_one(
     numbers: &[usize],
     memory: &mut [usize],
     h: usize,
-    n: usize,
+    c: usize,
     form: u8,
 ) -> usize
-    requires { ⌜ Ready (word (now obligation) (now second) m) (now numbers) (now memory) h × (h + formCount form ≤ 1024) × (n < length (now numbers)) ⌝ }
-    ensures { λ r. ⌜ Grown (word (now (obligation .entry)) (now (second .entry)) m) (now (numbers .entry)) (now (memory .entry)) h (oneTree (formTree (partTrees (word (now (obligation .entry)) (now (second .entry)) m) n)) form) (now (memory .exit)) r ⌝ }
+    requires { ⌜ Ready (word (now obligation) (now second) m) (now numbers) (now memory) h × (h + formCount form ≤ 1024) × (c < length (now numbers)) ⌝ }
+    ensures { λ r. ⌜ Grown (word (now (obligation .entry)) (now (second .entry)) m) (now (numbers .entry)) (now (memory .entry)) h (oneTree (formTree (itemTrees (word (now (obligation .entry)) (now (second .entry)) m) c)) form) (now (memory .exit)) r ⌝ }
 {
     if form == 0 {
         return h;
     }
-    add_form(obligation, second, m, numbers, memory, h, n, form);
+    memory[h] = forms::form_key(obligation, second, m, numbers, c, form);
     h + 1
 }
 
@@ -80,9 +49,10 @@ pub fn add_premise(
     requires { ⌜ Ready (word (now obligation) (now second) m) (now numbers) (now memory) h × (h + length (getD (rowOf (word (now obligation) (now second) m) n .adds) b []) ≤ 1024) × (n < length (now numbers)) ⌝ }
     ensures { λ r. ⌜ Grown (word (now (obligation .entry)) (now (second .entry)) m) (now (numbers .entry)) (now (memory .entry)) h (getD (rowOf (word (now (obligation .entry)) (now (second .entry)) m) n .adds) b []) (now (memory .exit)) r ⌝ }
 {
-    let k = words::word_at(obligation, second, m, n, 0);
-    let first = tables::add_form(k, b, 0);
-    let last = tables::add_form(k, b, 1);
-    let i = add_one(obligation, second, m, numbers, memory, h, n, first);
-    add_one(obligation, second, m, numbers, memory, i, n, last)
+    let node = references_of(obligation, second, m, n);
+    let pair = tables::add_pair(node.kind, b);
+    let first = tables::half(pair, 0);
+    let last = tables::half(pair, 1);
+    let i = add_one(obligation, second, m, numbers, memory, h, node.first, first);
+    add_one(obligation, second, m, numbers, memory, i, node.first, last)
 }

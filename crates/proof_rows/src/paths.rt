@@ -1,33 +1,46 @@
 // What a rule names of its parts: a part, a child of it, or a child of that.
-use reader::trees;
+use proof_references::References;
+use proof_references::references_of;
+use reader::kinds;
 use reader_chains::chains;
 ghost use mathlib.Core.Path.{_≡_};
 ghost use Rattle.reader.specs.Words.{word};
-ghost use Rattle.proof_rows.specs.Paths.{stepRecord, partRecord, pathRecord};
+ghost use Rattle.reader.specs.Tests.{ifLt};
+ghost use Rattle.proof_rows.specs.Paths.{childIn, stepRecord, pathRecord};
 
-// Record i itself, or what its word a refers to.
+// What a word with this role refers to, where that is a part of the tree.
+fn part_in(role: u8, x: usize) -> usize
+    ensures { λ r. ⌜ r ≡ ifLt role 10 0 x ⌝ }
+{
+    if role < 10 { 0 } else { x }
+}
+
+// The first child of a record, or else its second.
+fn child_in(x: References, a: u8) -> usize
+    ensures { λ r. ⌜ r ≡ childIn x a ⌝ }
+{
+    if a == 1 {
+        return part_in(kinds::role_of(x.kind, 1), x.first);
+    }
+    part_in(kinds::role_of(x.kind, 2), x.second)
+}
+
+// Record i itself, its first child, or its second.
 fn step(obligation: &[u8], second: &[u8], m: usize, i: usize, a: u8) -> usize
     ensures { λ r. ⌜ r ≡ stepRecord (word (now (obligation .entry)) (now (second .entry)) m) i a ⌝ }
 {
     if a == 0 {
         return i;
     }
-    trees::child_at(obligation, second, m, i, a)
+    let x = references_of(obligation, second, m, i);
+    child_in(x, a)
 }
 
-// Part j of node n, 0 where it has none.
-pub fn part_of(obligation: &[u8], second: &[u8], m: usize, n: usize, j: usize) -> usize
-    ensures { λ r. ⌜ r ≡ partRecord (word (now (obligation .entry)) (now (second .entry)) m) n j ⌝ }
+// What stands on a path in the parts of chain c: 16 times the part, and two steps, the first times 4.
+pub fn path_record(obligation: &[u8], second: &[u8], m: usize, c: usize, p: u8) -> usize
+    ensures { λ r. ⌜ r ≡ pathRecord (word (now (obligation .entry)) (now (second .entry)) m) c p ⌝ }
 {
-    let c = trees::lower_at(obligation, second, m, n, 1);
-    chains::item_at(obligation, second, m, c, j)
-}
-
-// What stands on a path: 9 times the part, and two steps, the first times 3.
-pub fn path_record(obligation: &[u8], second: &[u8], m: usize, n: usize, p: u8) -> usize
-    ensures { λ r. ⌜ r ≡ pathRecord (word (now (obligation .entry)) (now (second .entry)) m) n p ⌝ }
-{
-    let part = part_of(obligation, second, m, n, (p / 9) as usize);
-    let x = step(obligation, second, m, part, p / 3 % 3);
-    step(obligation, second, m, x, p % 3)
+    let part = chains::item_at(obligation, second, m, c, (p / 16) as usize);
+    let x = step(obligation, second, m, part, p / 4 % 4);
+    step(obligation, second, m, x, p % 4)
 }

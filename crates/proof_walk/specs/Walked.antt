@@ -230,6 +230,17 @@ links-go rd memory after h c n b count x rest a r pos ex er ea kept z e =
     follow-go rd c n b (sequent rd memory h) count pos x ex a ea z rest r er
     (e ∙ ap (λ (s : List Tree). follow rd rest n (b + 1) s (a .nodes)) (sequent-kept rd memory after h kept))
 
+-- the walk ends with a node that has no premises, and with a last premise
+pub visit-last : (rd : Reader) (n : ℕ) (s : List Tree) (count why c : ℕ) → (n ≡ 0 → ⊥) → why ≡ nodeFault rd s n → why ≡ 0 → c ≡ lower rd n 2 → c ≡ 0 →
+    accepted (count + 1) ≡ visit rd n s count
+visit-last rd n s count why c pos ew h ec none =
+    visit-go rd n s count pos why ew h c (accepted (count + 1)) ec (follow-none rd c n 0 s (count + 1) none)
+
+pub links-last : (rd : Reader) (c n b : ℕ) (s : List Tree) (count x rest : ℕ) (a : Answer) → (c ≡ 0 → ⊥) → x ≡ lower rd c 1 → rest ≡ lower rd c 3 →
+    a ≡ visit rd x (premiseSequent rd s n b) count → a .refusal ≡ 0 → rest ≡ 0 → accepted (a .nodes) ≡ follow rd c n b s count
+links-last rd c n b s count x rest a pos ex er ea z none =
+    follow-go rd c n b s count pos x ex a ea z rest (accepted (a .nodes)) er (follow-none rd rest n (b + 1) s (a .nodes) none)
+
 -- the numbers of premises and links stay small
 pub turn-few : (rd : Reader) (b c y : ℕ) → b + c ≤ 4294967296 → (c ≡ 0 → ⊥) → y ≡ lower rd c 3 → b + 1 + y ≤ 4294967296
 turn-few rd b c y few pos e = omega (arith, lower-below rd c 3 (omega arith))

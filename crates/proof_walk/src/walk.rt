@@ -1,5 +1,6 @@
 // The walk: node, then premises in chain order. The sequent is the first h keys of the memory; a premise's members are stored behind them.
 use proof_nodes::nodes;
+use proof_references::references_of;
 use proof_rows::adds;
 use reader::Answer;
 use reader::trees;
@@ -76,8 +77,7 @@ fn walk_links(
             nodes: count,
         };
     }
-    let x = trees::lower_at(obligation, second, m, c, 1);
-    let rest = trees::lower_at(obligation, second, m, c, 3);
+    let link = references_of(obligation, second, m, c);
     let a = walk_premise(
         obligation,
         second,
@@ -87,13 +87,21 @@ fn walk_links(
         memory,
         scratch,
         h,
-        x,
+        link.first,
         n,
         b,
         count,
     );
     if a.refusal != 0 {
         return a;
+    }
+    if link.third == 0 {
+        return Answer {
+            refusal: 0,
+            file: 0,
+            at: 0,
+            nodes: a.nodes,
+        };
     }
     walk_links(
         obligation,
@@ -104,7 +112,7 @@ fn walk_links(
         memory,
         scratch,
         h,
-        rest,
+        link.third,
         n,
         b + 1,
         a.nodes,
@@ -154,7 +162,16 @@ pub fn walk_node(
             nodes: count + 1,
         };
     }
-    let c = trees::lower_at(obligation, second, m, n, 2);
+    let links = trees::lower_at(obligation, second, m, n, 2);
+    let entered = count + 1;
+    if links == 0 {
+        return Answer {
+            refusal: 0,
+            file: 0,
+            at: 0,
+            nodes: entered,
+        };
+    }
     walk_links(
         obligation,
         second,
@@ -164,9 +181,9 @@ pub fn walk_node(
         memory,
         scratch,
         h,
-        c,
+        links,
         n,
         0,
-        count + 1,
+        entered,
     )
 }

@@ -6,29 +6,29 @@ use Rattle.proof_fits.proofs.fits_places.Tie as tie
 
 pub fits-places-spec : {M : Type 1} → statement M
 fits-places-spec = tie.close (tie.spec
-    -- part-of-requires: 5 args
+    -- item-at-requires: 5 args
     (λ c κs. search needs)
-    -- part-of-requires-2: part-of; 6 args
+    -- item-at-requires-2: item-at; 6 args
     (λ c κs. search needs)
-    -- part-of-requires-3: part-of2; 1 part-of; 7 args
+    -- item-at-requires-3: item-at2; 1 item-at; 7 args
     (λ c κs. search needs)
-    -- type-at-requires: part-of3; 1 part-of2; 2 part-of; 8 args
+    -- type-at-requires: item-at3; 1 item-at2; 2 item-at; 8 args
     (λ c κs. search needs)
-    -- type-at-requires-2: type-at; 1 part-of3; 2 part-of2; 3 part-of; 9 args
+    -- type-at-requires-2: type-at; 1 item-at3; 2 item-at2; 3 item-at; 9 args
     (λ c κs. search needs)
-    -- same-at-requires: type-at2; 1 type-at; 2 part-of3; 3 part-of2; 4 part-of; 10 args
+    -- same-at-requires: type-at2; 1 type-at; 2 item-at3; 3 item-at2; 4 item-at; 10 args
     (λ c κs. search needs)
-    -- returns: if1; 1 same-at; 2 type-at2; 3 type-at; 4 part-of3; 5 part-of2; 6 part-of; 12 args
-    (λ c. (places-fit _ _ _ _ _ _ _ _ (c .before .before .before .before .before .before .part-of .ensures) (c .before .before .before .before .before .part-of2 .ensures) (c .before .before .before .before .part-of3 .ensures) (c .before .before .before .type-at .ensures) (c .before .before .type-at2 .ensures) (both-stop _ _ _ (c .before .same-at .ensures) (c .if1 .taken)), c .before .before .before .before .before .before .before .before .before .before .before .before .pre .2))
-    -- bears-requires: bears-arg; 1 if1; 2 same-at; 3 type-at2; 4 type-at; 5 part-of3; 6 part-of2; 7 part-of; 13 args
+    -- returns: if1; 1 same-at; 2 type-at2; 3 type-at; 4 item-at3; 5 item-at2; 6 item-at; 12 args
+    (λ c. (places-fit _ _ _ _ _ _ _ _ (c .before .before .before .before .before .before .item-at .ensures) (c .before .before .before .before .before .item-at2 .ensures) (c .before .before .before .before .item-at3 .ensures) (c .before .before .before .type-at .ensures) (c .before .before .type-at2 .ensures) (both-stop _ _ _ (c .before .same-at .ensures) (c .if1 .taken)), c .before .before .before .before .before .before .before .before .before .before .before .before .pre .2))
+    -- bears-requires: bears-arg; 1 if1; 2 same-at; 3 type-at2; 4 type-at; 5 item-at3; 6 item-at2; 7 item-at; 13 args
     (λ c κs. c .before .before .before .before .before .before .before .before .before .before .before .before .before .pre)
-    -- same-length: if2; 2 seen; 3 bears; 4 bears-arg; 5 if1; 6 same-at; 7 type-at2; 8 type-at; 9 part-of3; 10 part-of2; 11 part-of; 17 args
+    -- same-length: if2; 2 seen; 3 bears; 4 bears-arg; 5 if1; 6 same-at; 7 type-at2; 8 type-at; 9 item-at3; 10 item-at2; 11 item-at; 17 args
     (λ c. search needs)
-    -- returns-2: if2; 2 seen; 3 bears; 4 bears-arg; 5 if1; 6 same-at; 7 type-at2; 8 type-at; 9 part-of3; 10 part-of2; 11 part-of; 17 args
+    -- returns-2: if2; 2 seen; 3 bears; 4 bears-arg; 5 if1; 6 same-at; 7 type-at2; 8 type-at; 9 item-at3; 10 item-at2; 11 item-at; 17 args
     (λ c. (search (places-fit, boths), c .before .before .before .bears .ensures .1))
-    -- fits-replaced-requires: fits-replaced-arg; 1 if2; 3 seen; 4 bears; 5 bears-arg; 6 if1; 7 same-at; 8 type-at2; 9 type-at; 10 part-of3; 11 part-of2; 12 part-of; 18 args
+    -- fits-replaced-requires: fits-replaced-arg; 1 if2; 3 seen; 4 bears; 5 bears-arg; 6 if1; 7 same-at; 8 type-at2; 9 type-at; 10 item-at3; 11 item-at2; 12 item-at; 18 args
     (λ c κs. let p = c .before .before .before .before .before .before .before .before .before .before .before .before .before .before .before .before .before .before .pre in (p .0, p .1, c .before .before .before .before .bears .ensures .1))
-    -- same-length-2: 1 seen2; 2 fits-replaced; 3 fits-replaced-arg; 4 if2; 6 seen; 7 bears; 8 bears-arg; 9 if1; 10 same-at; 11 type-at2; 12 type-at; 13 part-of3; 14 part-of2; 15 part-of; 21 args
+    -- same-length-2: 1 seen2; 2 fits-replaced; 3 fits-replaced-arg; 4 if2; 6 seen; 7 bears; 8 bears-arg; 9 if1; 10 same-at; 11 type-at2; 12 type-at; 13 item-at3; 14 item-at2; 15 item-at; 21 args
     (λ c. search needs)
-    -- returns-3: 1 seen2; 2 fits-replaced; 3 fits-replaced-arg; 4 if2; 6 seen; 7 bears; 8 bears-arg; 9 if1; 10 same-at; 11 type-at2; 12 type-at; 13 part-of3; 14 part-of2; 15 part-of; 21 args
+    -- returns-3: 1 seen2; 2 fits-replaced; 3 fits-replaced-arg; 4 if2; 6 seen; 7 bears; 8 bears-arg; 9 if1; 10 same-at; 11 type-at2; 12 type-at; 13 item-at3; 14 item-at2; 15 item-at; 21 args
     (λ c. (search (places-fit, boths), c .before .before .fits-replaced .ensures .1)))

@@ -1,17 +1,21 @@
 use borrow.Author.Needs.{needs}
-use Rattle.proof_rows.specs.Grown.{grown-none, grown-one, room-one}
+use Rattle.proof_rows.specs.Grown.{grown-none, grown-one, room-here}
 use Rattle.proof_rows.proofs.adds.add_one.Statement.{statement}
 use Rattle.proof_rows.proofs.adds.add_one.Tie as tie
 
 pub add-one-spec : {M : Type 1} → statement M
 add-one-spec = tie.close (tie.spec
-    -- returns: if1; 5 args
+    -- returns
     (λ c. search grown-none)
-    -- add-form-requires: add-form-arg; 1 if1; 6 args
-    (λ c κs. (search needs, search room-one, search needs))
-    -- add-result: 1 memory; 2 add-form; 3 add-form-arg; 4 if1; 9 args
+    -- form-key-requires
+    (λ c κs. search needs)
+    -- mul-memory
     (λ c. search needs)
-    -- same-length: 1 memory; 2 add-form; 3 add-form-arg; 4 if1; 9 args
+    -- slice-write-memory
+    (λ c. search room-here)
+    -- add-result
     (λ c. search needs)
-    -- returns-2: 1 memory; 2 add-form; 3 add-form-arg; 4 if1; 9 args
+    -- same-length
+    (λ c. search needs)
+    -- returns-2
     (λ c. search grown-one))

@@ -1,12 +1,12 @@
 use mathlib.Core.Path.{sym, ap}
 use Rattle.reader.specs.Tests.{ifEq, ifLt}
 use Rattle.proof_forms.specs.Tables.{ruleEntry}
-use Rattle.proof_rows.specs.Tables.{half, needsIn, needForms, needForm, needs-rest}
+use Rattle.proof_rows.specs.Tables.{half, pairIn, needForms, needForm, needs-rest}
 use Rattle.proof_rows.proofs.tables.need_row.Statement.{statement}
 use Rattle.proof_rows.proofs.tables.need_row.Tie as tie
 
 pub need-row-spec : {M : Type 1} → statement M
-unfolding half needsIn needForms needForm ruleEntry ifEq ifLt
+unfolding half pairIn needForms needForm ruleEntry ifEq ifLt
 need-row-spec = tie.close (tie.spec
     -- rules 32 to 46, one after the other
     (λ c. ap needForms (sym (c .match .keys1)))

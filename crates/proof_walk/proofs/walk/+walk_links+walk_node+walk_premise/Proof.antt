@@ -3,7 +3,7 @@ use mathlib.Core.Path.{refl, _∙_}
 use native.Mathlib.Omega.{arith}
 use Rattle.proof_walk.specs.Walked.{visit-none, visit-stop, visit-go, follow-none, follow-stop, premises-nodes, premise-room, premise-at, premise-walked}
 use Rattle.proof_walk.specs.Walked.{premise-kept, item-node, rest-nodes, item-count, rest-count, links-count, links-fall, premise-falls, rest-falls}
-use Rattle.proof_walk.specs.Walked.{at-lower, at-marked, at-rest, fault-none, fault-kept, links-go, turn-few, links-few}
+use Rattle.proof_walk.specs.Walked.{at-lower, at-marked, at-rest, fault-none, fault-kept, visit-last, links-last, links-go, turn-few, links-few}
 use Prim.Native.Nat.{ℕ, _+_, _*_, _<_}
 use borrow.Fn.Kinds.{In}
 use borrow.Fn.PlainCycle.{Measures, is, falls, and}
@@ -17,6 +17,7 @@ use Rattle.proof_walk.proofs.walk.walk_premise.Reads as walk-premise
 use Rattle.proof_walk.proofs.walk.walk_premise.Kinds as walk-premise-kinds
 use Rattle.proof_walk.proofs.walk.+walk_links+walk_node+walk_premise.Lts-walk_premise as walk-premise-lts
 use Rattle.proof_nodes.proofs.nodes.node_fault.Reads as node-fault-reads
+use Rattle.proof_references.proofs.references_of.Reads as references-of-reads
 use Rattle.reader.proofs.trees.lower_at.Reads as lower-at-reads
 use Rattle.proof_rows.proofs.adds.add_premise.Reads as add-premise-reads
 use Rattle.proof_walk.proofs.walk.+walk_links+walk_node+walk_premise.{statement}
@@ -59,7 +60,7 @@ walk-premise-below t =
     walk-premise.Pre
 
 abbrev walk-links-calls : ℕ → walk-links-lts.Claims
-walk-links-calls t = (lower-at-reads.Asked, lower-at-reads.Learnt, walk-premise-below t, walk-premise.Post, walk-links-below t, walk-links.Post)
+walk-links-calls t = (references-of-reads.Asked, references-of-reads.Learnt, walk-premise-below t, walk-premise.Post, walk-links-below t, walk-links.Post)
 
 abbrev walk-node-calls : ℕ → walk-node-lts.Claims
 walk-node-calls t = (node-fault-reads.Asked, node-fault-reads.Learnt, lower-at-reads.Asked, lower-at-reads.Learnt, walk-links-below t, walk-links.Post)
@@ -72,85 +73,60 @@ pub +walk-links+walk-node+walk-premise-spec : {M : Type 1} → statement M
     (λ t. walk-links-lts.spec (walk-links-calls t) (walk-links-at t) walk-links.Post
     -- returns: if1; 7 args
     (λ c. (search follow-none, refl, c .before .before .before .before .before .before .before .pre .1 .0 .blank))
-    -- lower-at-requires: if1; 7 args
+    -- references-of-requires: if1; 7 args
     (λ c κs. search needs)
-    -- lower-at-requires-2: lower-at; 1 if1; 8 args
-    (λ c κs. search needs)
-    -- walk-premise-requires: walk-premise-arg2; 1 walk-premise-arg; 2 lower-at2; 3 lower-at; 4 if1; 11 args
+    -- walk-premise-requires: walk-premise-arg2; 1 walk-premise-arg; 2 references-of; 3 if1; 10 args
     (λ c κs. (
-      premise-falls _ _ _ t (c .before .before .before .before .before .before .before .before .before .before .before .pre .0) (c .before .before .before .before .if1 .left)
-          (c .before .before .before .lower-at .ensures),
+      premise-falls _ _ _ t (c .before .before .before .before .before .before .before .before .before .before .pre .0) (c .before .before .before .if1 .left) (c .before .before .references-of .ensures .first-is),
       (
-        at-lower _ _ _ _ _ _ (c .before .before .before .before .before .before .before .before .before .before .before .pre .1 .0) _ 1
-            (c .before .before .before .lower-at .ensures),
-        c .before .before .before .before .before .before .before .before .before .before .before .pre .1 .1,
-        c .before .before .before .before .before .before .before .before .before .before .before .pre .1 .2,
-        item-node _ _ (c .before .before .before .before .if1 .left)
-            (c .before .before .before .before .before .before .before .before .before .before .before .pre .1 .3) _ (c .before .before .before .lower-at .ensures),
-        item-count _ _
-            (c .before .before .before .before .if1 .left) (c .before .before .before .before .before .before .before .before .before .before .before .pre .1 .3) _ _ _
-            (c .before .before .before .lower-at .ensures) (c .before .before .lower-at2 .ensures) (c .before .before .before .before .before .before .before .before .before .before .before .pre .1 .4),
-        c .before .before .before .before .before .before .before .before .before .before .before .pre .1 .6,
+        at-lower _ _ _ _ _ _ (c .before .before .before .before .before .before .before .before .before .before .pre .1 .0) _ 1 (c .before .before .references-of .ensures .first-is),
+        c .before .before .before .before .before .before .before .before .before .before .pre .1 .1,
+        c .before .before .before .before .before .before .before .before .before .before .pre .1 .2,
+        item-node _ _ (c .before .before .before .if1 .left) (c .before .before .before .before .before .before .before .before .before .before .pre .1 .3) _ (c .before .before .references-of .ensures .first-is),
+        item-count _ _ (c .before .before .before .if1 .left) (c .before .before .before .before .before .before .before .before .before .before .pre .1 .3) _ _ _ (c .before .before .references-of .ensures .first-is) (c .before .before .references-of .ensures .third-is) (c .before .before .before .before .before .before .before .before .before .before .pre .1 .4),
+        c .before .before .before .before .before .before .before .before .before .before .pre .1 .6,
       ),
     ))
-    -- same-length: if2; 1 struct-known; 3 scratch; 5 memory; 6 walk-premise; 7 walk-premise-arg2; 8 walk-premise-arg; 9 lower-at2; 10 lower-at; 11 if1; 18 args
+    -- same-length: if2; 1 struct-known; 3 scratch; 5 memory; 6 walk-premise; 7 walk-premise-arg2; 8 walk-premise-arg; 9 references-of; 10 if1; 17 args
     (λ c. search needs)
-    -- same-length-2: if2; 1 struct-known; 3 scratch; 5 memory; 6 walk-premise; 7 walk-premise-arg2; 8 walk-premise-arg; 9 lower-at2; 10 lower-at; 11 if1; 18 args
+    -- same-length-2: if2; 1 struct-known; 3 scratch; 5 memory; 6 walk-premise; 7 walk-premise-arg2; 8 walk-premise-arg; 9 references-of; 10 if1; 17 args
     (λ c. search needs)
-    -- returns-2: if2; 1 struct-known; 3 scratch; 5 memory; 6 walk-premise; 7 walk-premise-arg2; 8 walk-premise-arg; 9 lower-at2; 10 lower-at; 11 if1; 18 args
+    -- returns-2: if2; 1 struct-known; 3 scratch; 5 memory; 6 walk-premise; 7 walk-premise-arg2; 8 walk-premise-arg; 9 references-of; 10 if1; 17 args
     (λ c. let f = c .before .before .before .before .before .before .walk-premise .ensures in (search follow-stop, f .1, f .2))
-    -- add-walk-links: walk-links-arg2; 1 walk-links-arg; 2 if2; 3 struct-known; 5 scratch; 7 memory; 8 walk-premise; 9 walk-premise-arg2; 10 walk-premise-arg; 11 lower-at2; 12 lower-at; 13 if1; 20 args
-    (λ c. omega (arith, c .before .before .before .before .before .before .before .before .before .before .before .before .before .before .before .before .before .before .before .before .pre .1 .5))
-    -- walk-links-requires: walk-links-arg2; 1 walk-links-arg; 2 if2; 3 struct-known; 5 scratch; 7 memory; 8 walk-premise; 9 walk-premise-arg2; 10 walk-premise-arg; 11 lower-at2; 12 lower-at; 13 if1; 20 args
+    -- same-length-3: if3; 1 struct-known2; 2 if2; 3 struct-known; 5 scratch; 7 memory; 8 walk-premise; 9 walk-premise-arg2; 10 walk-premise-arg; 11 references-of; 12 if1; 19 args
+    (λ c. search needs)
+    -- same-length-4: if3; 1 struct-known2; 2 if2; 3 struct-known; 5 scratch; 7 memory; 8 walk-premise; 9 walk-premise-arg2; 10 walk-premise-arg; 11 references-of; 12 if1; 19 args
+    (λ c. search needs)
+    -- returns-3: if3; 1 struct-known2; 2 if2; 3 struct-known; 5 scratch; 7 memory; 8 walk-premise; 9 walk-premise-arg2; 10 walk-premise-arg; 11 references-of; 12 if1; 19 args
+    (λ c. let f = c .before .before .before .before .before .before .before .before .walk-premise .ensures in (search links-last, f .1, f .2))
+    -- add-walk-links: walk-links-arg2; 1 walk-links-arg; 2 if3; 3 struct-known2; 4 if2; 5 struct-known; 7 scratch; 9 memory; 10 walk-premise; 11 walk-premise-arg2; 12 walk-premise-arg; 13 references-of; 14 if1; 21 args
+    (λ c. omega (arith, c .before .before .before .before .before .before .before .before .before .before .before .before .before .before .before .before .before .before .before .before .before .pre .1 .5))
+    -- walk-links-requires: walk-links-arg2; 1 walk-links-arg; 2 if3; 3 struct-known2; 4 if2; 5 struct-known; 7 scratch; 9 memory; 10 walk-premise; 11 walk-premise-arg2; 12 walk-premise-arg; 13 references-of; 14 if1; 21 args
     (λ c κs. (
-      rest-falls _ _ _ t
-          (c .before .before .before .before .before .before .before .before .before .before .before .before .before .before .before .before .before .before .before .before .pre .0)
-          (c .before .before .before .before .before .before .before .before .before .before .before .before .before .if1 .left)
-          (c .before .before .before .before .before .before .before .before .before .before .before .lower-at2 .ensures),
+      rest-falls _ _ _ t (c .before .before .before .before .before .before .before .before .before .before .before .before .before .before .before .before .before .before .before .before .before .pre .0) (c .before .before .before .before .before .before .before .before .before .before .before .before .before .before .if1 .left) (c .before .before .before .before .before .before .before .before .before .before .before .before .before .references-of .ensures .third-is),
       (
-        at-rest _ _ _ _ _ _
-            (c .before .before .before .before .before .before .before .before .before .before .before .before .before .before .before .before .before .before .before .before .pre .1 .0) _ _ _ 3
-            (c .before .before .before .before .before .before .before .before .walk-premise .kept .1 .1 .1 .1 .1 .0)
-            (c .before .before .before .before .before .before .before .before .walk-premise .kept .1 .1 .1 .1 .1 .1 .0)
-            (c .before .before .before .before .before .before .before .before .walk-premise .ensures .2) (c .before .before .before .before .before .before .before .before .walk-premise .ensures .1)
-            (c .before .before .before .before .before .before .before .before .before .before .before .lower-at2 .ensures),
-        c .before .before .before .before .before .before .before .before .before .before .before .before .before .before .before .before .before .before .before .before .pre .1 .1,
-        fault-kept _ _ _ _
-            _ (c .before .before .before .before .before .before .before .before .walk-premise .ensures .1)
-            (c .before .before .before .before .before .before .before .before .before .before .before .before .before .before .before .before .before .before .before .before .pre .1 .2),
-        rest-nodes _ _
-            (c .before .before .before .before .before .before .before .before .before .before .before .before .before .if1 .left)
-            (c .before .before .before .before .before .before .before .before .before .before .before .before .before .before .before .before .before .before .before .before .pre .1 .3) _
-            (c .before .before .before .before .before .before .before .before .before .before .before .lower-at2 .ensures),
-        rest-count _ _
-            (c .before .before .before .before .before .before .before .before .before .before .before .before .before .if1 .left)
-            (c .before .before .before .before .before .before .before .before .before .before .before .before .before .before .before .before .before .before .before .before .pre .1 .3) _ _ _
-            (c .before .before .before .before .before .before .before .before .before .before .before .before .lower-at .ensures)
-            (c .before .before .before .before .before .before .before .before .before .before .before .lower-at2 .ensures)
-            (c .before .before .before .before .before .before .before .before .before .before .before .before .before .before .before .before .before .before .before .before .pre .1 .4) _ _
-            (c .before .before .before .before .before .before .before .before .walk-premise .ensures .0),
-        turn-few _ _ _ _
-            (c .before .before .before .before .before .before .before .before .before .before .before .before .before .before .before .before .before .before .before .before .pre .1 .5)
-            (c .before .before .before .before .before .before .before .before .before .before .before .before .before .if1 .left)
-            (c .before .before .before .before .before .before .before .before .before .before .before .lower-at2 .ensures),
-        c .before .before .before .before .before .before .before .before .before .before .before .before .before .before .before .before .before .before .before .before .pre .1 .6,
+        at-rest _ _ _ _ _ _ (c .before .before .before .before .before .before .before .before .before .before .before .before .before .before .before .before .before .before .before .before .before .pre .1 .0) _ _ _ 3
+            (c .before .before .before .before .before .before .before .before .before .before .walk-premise .kept .1 .1 .1 .1 .1 .0) (c .before .before .before .before .before .before .before .before .before .before .walk-premise .kept .1 .1 .1 .1 .1 .1 .0)
+            (c .before .before .before .before .before .before .before .before .before .before .walk-premise .ensures .2) (c .before .before .before .before .before .before .before .before .before .before .walk-premise .ensures .1) (c .before .before .before .before .before .before .before .before .before .before .before .before .before .references-of .ensures .third-is),
+        c .before .before .before .before .before .before .before .before .before .before .before .before .before .before .before .before .before .before .before .before .before .pre .1 .1,
+        fault-kept _ _ _ _ _ (c .before .before .before .before .before .before .before .before .before .before .walk-premise .ensures .1) (c .before .before .before .before .before .before .before .before .before .before .before .before .before .before .before .before .before .before .before .before .before .pre .1 .2),
+        rest-nodes _ _ (c .before .before .before .before .before .before .before .before .before .before .before .before .before .before .if1 .left) (c .before .before .before .before .before .before .before .before .before .before .before .before .before .before .before .before .before .before .before .before .before .pre .1 .3) _ (c .before .before .before .before .before .before .before .before .before .before .before .before .before .references-of .ensures .third-is),
+        rest-count _ _ (c .before .before .before .before .before .before .before .before .before .before .before .before .before .before .if1 .left) (c .before .before .before .before .before .before .before .before .before .before .before .before .before .before .before .before .before .before .before .before .before .pre .1 .3) _ _ _ (c .before .before .before .before .before .before .before .before .before .before .before .before .before .references-of .ensures .first-is) (c .before .before .before .before .before .before .before .before .before .before .before .before .before .references-of .ensures .third-is)
+            (c .before .before .before .before .before .before .before .before .before .before .before .before .before .before .before .before .before .before .before .before .before .pre .1 .4) _ _ (c .before .before .before .before .before .before .before .before .before .before .walk-premise .ensures .0),
+        turn-few _ _ _ _ (c .before .before .before .before .before .before .before .before .before .before .before .before .before .before .before .before .before .before .before .before .before .pre .1 .5) (c .before .before .before .before .before .before .before .before .before .before .before .before .before .before .if1 .left) (c .before .before .before .before .before .before .before .before .before .before .before .before .before .references-of .ensures .third-is),
+        c .before .before .before .before .before .before .before .before .before .before .before .before .before .before .before .before .before .before .before .before .before .pre .1 .6,
       ),
     ))
-    -- same-length-3: 1 scratch2; 3 memory2; 4 walk-links; 5 walk-links-arg2; 6 walk-links-arg; 7 if2; 8 struct-known; 10 scratch; 12 memory; 13 walk-premise; 14 walk-premise-arg2; 15 walk-premise-arg; 16 lower-at2; 17 lower-at; 18 if1; 25 args
-    (λ c. c .before .before .before .before .walk-links .kept .1 .1 .1 .1 .1 .0 ∙ c .before .before .before .before .before .before .before .before .before .before .before .before .before .walk-premise .kept .1 .1 .1 .1 .1 .0)
-    -- same-length-4: 1 scratch2; 3 memory2; 4 walk-links; 5 walk-links-arg2; 6 walk-links-arg; 7 if2; 8 struct-known; 10 scratch; 12 memory; 13 walk-premise; 14 walk-premise-arg2; 15 walk-premise-arg; 16 lower-at2; 17 lower-at; 18 if1; 25 args
-    (λ c. c .before .before .before .before .walk-links .kept .1 .1 .1 .1 .1 .1 .0 ∙ c .before .before .before .before .before .before .before .before .before .before .before .before .before .walk-premise .kept .1 .1 .1 .1 .1 .1 .0)
-    -- returns-3: 1 scratch2; 3 memory2; 4 walk-links; 5 walk-links-arg2; 6 walk-links-arg; 7 if2; 8 struct-known; 10 scratch; 12 memory; 13 walk-premise; 14 walk-premise-arg2; 15 walk-premise-arg; 16 lower-at2; 17 lower-at; 18 if1; 25 args
+    -- same-length-5: 1 scratch2; 3 memory2; 4 walk-links; 5 walk-links-arg2; 6 walk-links-arg; 7 if3; 8 struct-known2; 9 if2; 10 struct-known; 12 scratch; 14 memory; 15 walk-premise; 16 walk-premise-arg2; 17 walk-premise-arg; 18 references-of; 19 if1; 26 args
+    (λ c. c .before .before .before .before .walk-links .kept .1 .1 .1 .1 .1 .0 ∙ c .before .before .before .before .before .before .before .before .before .before .before .before .before .before .before .walk-premise .kept .1 .1 .1 .1 .1 .0)
+    -- same-length-6: 1 scratch2; 3 memory2; 4 walk-links; 5 walk-links-arg2; 6 walk-links-arg; 7 if3; 8 struct-known2; 9 if2; 10 struct-known; 12 scratch; 14 memory; 15 walk-premise; 16 walk-premise-arg2; 17 walk-premise-arg; 18 references-of; 19 if1; 26 args
+    (λ c. c .before .before .before .before .walk-links .kept .1 .1 .1 .1 .1 .1 .0 ∙ c .before .before .before .before .before .before .before .before .before .before .before .before .before .before .before .walk-premise .kept .1 .1 .1 .1 .1 .1 .0)
+    -- returns-4: 1 scratch2; 3 memory2; 4 walk-links; 5 walk-links-arg2; 6 walk-links-arg; 7 if3; 8 struct-known2; 9 if2; 10 struct-known; 12 scratch; 14 memory; 15 walk-premise; 16 walk-premise-arg2; 17 walk-premise-arg; 18 references-of; 19 if1; 26 args
     (λ c. (
       links-go _ _ _ _ _ _ _ _ _ _ _ _
-          (c .before .before .before .before .before .before .before .before .before .before .before .before .before .before .before .before .before .before .if1 .left)
-          (c .before .before .before .before .before .before .before .before .before .before .before .before .before .before .before .before .before .lower-at .ensures)
-          (c .before .before .before .before .before .before .before .before .before .before .before .before .before .before .before .before .lower-at2 .ensures)
-          (c .before .before .before .before .before .before .before .before .before .before .before .before .before .walk-premise .ensures .0)
-          (c .before .before .before .before .before .before .before .before .before .before .before .before .before .walk-premise .ensures .1)
-          (c .before .before .before .before .before .before .before .if2 .left) (c .before .before .before .before .walk-links .ensures .0),
-      c .before .before .before .before .walk-links .ensures .1 ∙
-          c .before .before .before .before .before .before .before .before .before .before .before .before .before .walk-premise .ensures .1,
+          (c .before .before .before .before .before .before .before .before .before .before .before .before .before .before .before .before .before .before .before .if1 .left) (c .before .before .before .before .before .before .before .before .before .before .before .before .before .before .before .before .before .before .references-of .ensures .first-is) (c .before .before .before .before .before .before .before .before .before .before .before .before .before .before .before .before .before .before .references-of .ensures .third-is)
+          (c .before .before .before .before .before .before .before .before .before .before .before .before .before .before .before .walk-premise .ensures .0) (c .before .before .before .before .before .before .before .before .before .before .before .before .before .before .before .walk-premise .ensures .1) (c .before .before .before .before .before .before .before .before .before .if2 .left) (c .before .before .before .before .walk-links .ensures .0),
+      c .before .before .before .before .walk-links .ensures .1 ∙ c .before .before .before .before .before .before .before .before .before .before .before .before .before .before .before .walk-premise .ensures .1,
       c .before .before .before .before .walk-links .ensures .2,
     )))
     (λ t. walk-node-lts.spec (walk-node-calls t) (walk-node-at t) walk-node.Post
@@ -158,7 +134,7 @@ pub +walk-links+walk-node+walk-premise-spec : {M : Type 1} → statement M
     (λ c. (search visit-none, refl, c .before .before .before .before .before .before .before .pre .1 .0 .blank))
     -- node-fault-requires: node-fault-arg2; 1 node-fault-arg; 2 if1; 9 args
     (λ c κs. search needs)
-    -- add-t17: if2; 2 scratch; 3 node-fault; 4 node-fault-arg2; 5 node-fault-arg; 6 if1; 13 args
+    -- add-t18: if2; 2 scratch; 3 node-fault; 4 node-fault-arg2; 5 node-fault-arg; 6 if1; 13 args
     (λ c. omega arith)
     -- same-length: if2; 2 scratch; 3 node-fault; 4 node-fault-arg2; 5 node-fault-arg; 6 if1; 13 args
     (λ c. search needs)
@@ -168,33 +144,39 @@ pub +walk-links+walk-node+walk-premise-spec : {M : Type 1} → statement M
     (λ c. (search visit-stop, refl, c .before .before .before .node-fault .ensures .1))
     -- lower-at-requires: if2; 2 scratch; 3 node-fault; 4 node-fault-arg2; 5 node-fault-arg; 6 if1; 13 args
     (λ c κs. search needs)
-    -- add-walk-links: walk-links-arg2; 1 walk-links-arg; 2 lower-at; 3 if2; 5 scratch; 6 node-fault; 7 node-fault-arg2; 8 node-fault-arg; 9 if1; 16 args
+    -- add-entered: lower-at; 1 if2; 3 scratch; 4 node-fault; 5 node-fault-arg2; 6 node-fault-arg; 7 if1; 14 args
     (λ c. omega arith)
-    -- walk-links-requires: walk-links-arg2; 1 walk-links-arg; 2 lower-at; 3 if2; 5 scratch; 6 node-fault; 7 node-fault-arg2; 8 node-fault-arg; 9 if1; 16 args
+    -- same-length-3: if3; 1 lower-at; 2 if2; 4 scratch; 5 node-fault; 6 node-fault-arg2; 7 node-fault-arg; 8 if1; 15 args
+    (λ c. search needs)
+    -- same-length-4: if3; 1 lower-at; 2 if2; 4 scratch; 5 node-fault; 6 node-fault-arg2; 7 node-fault-arg; 8 if1; 15 args
+    (λ c. search needs)
+    -- returns-3: if3; 1 lower-at; 2 if2; 4 scratch; 5 node-fault; 6 node-fault-arg2; 7 node-fault-arg; 8 if1; 15 args
+    (λ c. (search visit-last, refl, c .before .before .before .before .before .node-fault .ensures .1))
+    -- walk-links-requires: walk-links-arg2; 1 walk-links-arg; 2 if3; 3 lower-at; 4 if2; 6 scratch; 7 node-fault; 8 node-fault-arg2; 9 node-fault-arg; 10 if1; 17 args
     (λ c κs. (
-      links-fall _ _ _ t (c .before .before .before .before .before .before .before .before .before .before .before .before .before .before .before .before .pre .0)
-          (c .before .before .before .before .before .before .before .before .before .if1 .left) (c .before .before .lower-at .ensures),
+      links-fall _ _ _ t (c .before .before .before .before .before .before .before .before .before .before .before .before .before .before .before .before .before .pre .0)
+          (c .before .before .before .before .before .before .before .before .before .before .if1 .left) (c .before .before .before .lower-at .ensures),
       (
-        at-marked _ _ _ _ _ _ (c .before .before .before .before .before .before .before .before .before .before .before .before .before .before .before .before .pre .1 .0) _ _ 2
-            (c .before .before .before .before .before .before .node-fault .kept .1 .1 .1 .1 .1 .1 .0) (c .before .before .before .before .before .before .node-fault .ensures .1)
-            (c .before .before .lower-at .ensures),
-        c .before .before .before .before .before .before .before .before .before .before .before .before .before .before .before .before .pre .1 .0 .within,
-        fault-none _ _ _ _ (c .before .before .before .before .before .before .node-fault .ensures .0) (c .before .before .before .if2 .left),
+        at-marked _ _ _ _ _ _ (c .before .before .before .before .before .before .before .before .before .before .before .before .before .before .before .before .before .pre .1 .0) _ _ 2
+            (c .before .before .before .before .before .before .before .node-fault .kept .1 .1 .1 .1 .1 .1 .0) (c .before .before .before .before .before .before .before .node-fault .ensures .1)
+            (c .before .before .before .lower-at .ensures),
+        c .before .before .before .before .before .before .before .before .before .before .before .before .before .before .before .before .before .pre .1 .0 .within,
+        fault-none _ _ _ _ (c .before .before .before .before .before .before .before .node-fault .ensures .0) (c .before .before .before .before .if2 .left),
         premises-nodes _ _ _ _ _
-            (c .before .before .before .before .before .before .node-fault .ensures .0) (c .before .before .before .if2 .left) (c .before .before .lower-at .ensures),
+            (c .before .before .before .before .before .before .before .node-fault .ensures .0) (c .before .before .before .before .if2 .left) (c .before .before .before .lower-at .ensures),
         links-count _ _ _ _
-            (c .before .before .before .before .before .before .before .before .before .if1 .left) (c .before .before .lower-at .ensures)
-            (c .before .before .before .before .before .before .before .before .before .before .before .before .before .before .before .before .pre .1 .2),
+            (c .before .before .before .before .before .before .before .before .before .before .if1 .left) (c .before .before .before .lower-at .ensures)
+            (c .before .before .before .before .before .before .before .before .before .before .before .before .before .before .before .before .before .pre .1 .2),
         links-few _ _ _ _ _ _ _
-            (c .before .before .before .before .before .before .before .before .before .before .before .before .before .before .before .before .pre .1 .0) (c .before .before .lower-at .ensures),
-        c .before .before .before .before .before .before .before .before .before .before .before .before .before .before .before .before .pre .1 .3,
+            (c .before .before .before .before .before .before .before .before .before .before .before .before .before .before .before .before .before .pre .1 .0) (c .before .before .before .lower-at .ensures),
+        c .before .before .before .before .before .before .before .before .before .before .before .before .before .before .before .before .before .pre .1 .3,
       ),
     ))
-    -- same-length-3: 1 scratch2; 3 memory; 4 walk-links; 5 walk-links-arg2; 6 walk-links-arg; 7 lower-at; 8 if2; 10 scratch; 11 node-fault; 12 node-fault-arg2; 13 node-fault-arg; 14 if1; 21 args
+    -- same-length-5: 1 scratch2; 3 memory; 4 walk-links; 5 walk-links-arg2; 6 walk-links-arg; 7 if3; 8 lower-at; 9 if2; 11 scratch; 12 node-fault; 13 node-fault-arg2; 14 node-fault-arg; 15 if1; 22 args
     (λ c. search needs)
-    -- same-length-4: 1 scratch2; 3 memory; 4 walk-links; 5 walk-links-arg2; 6 walk-links-arg; 7 lower-at; 8 if2; 10 scratch; 11 node-fault; 12 node-fault-arg2; 13 node-fault-arg; 14 if1; 21 args
+    -- same-length-6: 1 scratch2; 3 memory; 4 walk-links; 5 walk-links-arg2; 6 walk-links-arg; 7 if3; 8 lower-at; 9 if2; 11 scratch; 12 node-fault; 13 node-fault-arg2; 14 node-fault-arg; 15 if1; 22 args
     (λ c. search needs)
-    -- returns-3: 1 scratch2; 3 memory; 4 walk-links; 5 walk-links-arg2; 6 walk-links-arg; 7 lower-at; 8 if2; 10 scratch; 11 node-fault; 12 node-fault-arg2; 13 node-fault-arg; 14 if1; 21 args
+    -- returns-4: 1 scratch2; 3 memory; 4 walk-links; 5 walk-links-arg2; 6 walk-links-arg; 7 if3; 8 lower-at; 9 if2; 11 scratch; 12 node-fault; 13 node-fault-arg2; 14 node-fault-arg; 15 if1; 22 args
     (λ c. let f = c .before .before .before .before .walk-links .ensures in (search visit-go, f .1, f .2)))
     (λ t. walk-premise-lts.spec (walk-premise-calls t) (walk-premise-at t) walk-premise.Post
     -- add-premise-requires: add-premise-arg; 7 args
