@@ -10,11 +10,12 @@ use native.Mathlib.Omega.{arith}
 use borrow.Author.Tests.{eq-eqb, ne-eqb, eqb-true, eqb-false, lt-ltb, le-ltb, ltb-true, ltb-false}
 use Rattle.reader.specs.Words.{Reader}
 use Rattle.reader.specs.Tests.{both, either, ifEq, ifLt, ifTrue}
-use Rattle.reader.specs.Trees.{Tree, leaf, node, child, ⊥ᵗ, ¬ᵗ_}
+use Rattle.reader.specs.Trees.{Tree, leaf, node, ⊥ᵗ, ¬ᵗ_}
 use Rattle.reader_closedness.specs.Reach.{larger}
 use Rattle.reader_equality.specs.Keys.{partAt}
 use Rattle.derivation_rules.specs.Erase.{bareTree}
 use Rattle.derivation_trees.specs.Erased.{bare-zero, bare-true, bare-all, bare-node}
+use Rattle.derivation_closedness.specs.Parts.{true-first, true-second, true-third, all-second}
 
 -- two of the orders a, b and c are the largest
 unfoldable pub shared : ℕ → ℕ → ℕ → ℕ → Bool
@@ -246,15 +247,24 @@ pub order-none : (rd : Reader) (i : ℕ) → i ≡ 0 → 0 ≡ order (bareTree r
 unfolding order
 order-none rd i h = rw (h, bare-zero rd) refl
 
-module _ (rd : Reader) (i k : ℕ) (p : i ≡ 0 → ⊥) (ek : k ≡ rd i 0) where
-  pub order-true : k ≡ 15 → 1 ≡ order (bareTree rd i)
-  order-true h = rw (bare-true rd i (omega arith) (sym ek ∙ h), order-not ⊥ᵗ (order-some 14 0 leaf leaf leaf)) (sym (order-single 14 0))
+module _ (rd : Reader) (i k : ℕ) (p : 0 < i) (ek : k ≡ rd i 0) where
+  order-true : k ≡ 15 → 1 ≡ order (bareTree rd i)
+  order-true h = rw (bare-true rd i p (sym ek ∙ h), order-not ⊥ᵗ (order-some 14 0 leaf leaf leaf)) (sym (order-single 14 0))
 
-  pub order-all : (x r : ℕ) → k ≡ 22 → x ≡ child rd i 2 → r ≡ order (bareTree rd x) → r ≡ order (bareTree rd i)
-  order-all x r h ex er = rw (bare-all rd i (omega arith) (sym ek ∙ h), ← ex) er
+  pub order-all : (r : ℕ) → k ≡ 22 → r ≡ partOrder rd i 2 → r ≡ order (bareTree rd i)
+  unfolding partOrder
+  order-all r h er = let all : rd i 0 ≡ 22 = sym ek ∙ h in rw (bare-all rd i p all, ← all-second rd i all) er
 
-  pub order-node : (x y z r : ℕ) → (k ≡ 15 → ⊥) → (k ≡ 22 → ⊥) → x ≡ partOrder rd i 1 → y ≡ partOrder rd i 2 → z ≡ partOrder rd i 3 →
+  -- ⊤ by its parts, of which there are none, and other kinds
+  pub order-node : (x y z r : ℕ) → (k ≡ 22 → ⊥) → x ≡ partOrder rd i 1 → y ≡ partOrder rd i 2 → z ≡ partOrder rd i 3 →
       r ≡ orderAbove x y z → r ≡ order (bareTree rd i)
-  unfolding order partOrder
-  order-node x y z r no-true no-all ex ey ez er =
-      rw (bare-node rd i (omega arith) (λ h. no-true (ek ∙ h)) (λ h. no-all (ek ∙ h)), ← ex, ← ey, ← ez) er
+  unfolding order partOrder orderAbove above shared larger ifLt ifTrue ifEq either
+  order-node x y z r no-all ex ey ez er = go (eqb k 15) refl
+    where
+      go : (b : Bool) → eqb k 15 ≡ b → r ≡ order (bareTree rd i)
+      go true t =
+          let top : rd i 0 ≡ 15 = sym ek ∙ eqb-true k 15 t in
+          let one : r ≡ 1 = er ∙ rw (ex, ey, ez, true-first rd i top, true-second rd i top, true-third rd i top, bare-zero rd) refl in
+          one ∙ order-true (eqb-true k 15 t)
+      go false t =
+          rw (bare-node rd i p (λ h. eqb-false k 15 t (ek ∙ h)) (λ h. no-all (ek ∙ h)), ← ex, ← ey, ← ez) er

@@ -10,17 +10,23 @@ use native.Mathlib.Omega.{arith}
 use borrow.Author.Tests.{eqb-true, eqb-false, ltb-true, ltb-false, le-ltb}
 use Rattle.reader.specs.Words.{Reader}
 use Rattle.reader.specs.Tests.{ifEq, ifLt, ifTrue}
+use Rattle.reader.specs.TestLaws.{eq-yes, eq-no}
 use Rattle.reader.specs.Trees.{Tree, child, atom, ¬ᵗ_}
 use Rattle.reader.specs.TreeLaws.{child-below}
 use Rattle.reader.specs.Variables.{binders, indicesBelow}
 use Rattle.reader_closedness.specs.Reaches.{variable-index, own-none, own-variable}
 use Rattle.reader_closedness.specs.Reach.{larger, variable, crossed, ownReach, reach, indices-reach}
+use Rattle.reader_view.specs.declared.Record.{Record}
+use Rattle.reader_view.specs.Records.{RecordIs}
+use Rattle.reader_equality.specs.declared.Parts.{Parts}
 use Rattle.reader_equality.specs.Keys.{partAt, part-below}
+use Rattle.reader_equality.specs.Shapes.{PartsAre}
 use Rattle.derivation_rules.specs.Erase.{bareTree}
 use Rattle.derivation_trees.specs.Erased.{bare-zero, bare-true, bare-all, bare-node}
 use Rattle.derivation_trees.specs.Keys.{negationsOf, bodyOf, bodyTree, negate, decoded, Normal, by-body, body-none, body-bottom, body-record}
 use Rattle.derivation_trees.specs.Parts.{body-in}
-use Rattle.derivation_closedness.specs.Orders.{order, partOrder, order-all}
+use Rattle.derivation_closedness.specs.Orders.{order, partOrder, order-none}
+use Rattle.derivation_closedness.specs.Parts.{first-part, second-part, third-part, first-low, second-low, third-low, true-first, true-second, true-third, all-first, all-second, all-third}
 
 -- the indices of the records below n are below 64
 pub record Indexed (rd : Reader) (n : ℕ) : Type 0 where
@@ -53,53 +59,117 @@ unfoldable pub nodeReach : Reader → ℕ → ℕ
 nodeReach rd i =
     larger (ownReach false (rd i 0) (atom rd i)) (larger (partReach rd i 1) (larger (partReach rd i 2 - crossed false (rd i 0)) (partReach rd i 3)))
 
--- from a record to a smaller one that it refers to, where the measure is three times the record's number, and two more at the callee
-pub part-falls : (rd : Reader) (i w x t : ℕ) → 3 * i ≡ t → 0 < i → x ≡ partAt rd false i w → 3 * x + 2 < t
-part-falls rd i w x t e p q = omega (arith, part-below rd false i w p)
+larger-none : (a : ℕ) → larger a 0 ≡ a
+unfolding larger ifLt
+larger-none a = simp (larger, ifLt, le-ltb a 0 (omega arith))
 
-pub child-falls : (rd : Reader) (i w x t : ℕ) → 3 * i + 2 ≡ t → (i ≡ 0 → ⊥) → x ≡ child rd i w → 3 * x + 2 < t
-child-falls rd i w x t e p q = omega (arith, child-below rd i w (omega arith))
+none-larger : (a : ℕ) → larger 0 a ≡ a
+unfolding larger ifLt
+none-larger a = go (ltb 0 a) refl
+  where
+    go : (b : Bool) → ltb 0 a ≡ b → elim b as (λ x. ℕ) [ true ↦ a | false ↦ 0 ] ≡ a
+    go true e = refl
+    go false e = omega (arith, ltb-false 0 a e)
+
+-- The ways out of `own_reach`, and what it is in the tree.
+pub own-other : (x : Record) → (x .kind ≡ 9 → ⊥) → 0 ≡ ownReach false (x .kind) (x .a)
+unfolding ownReach variable ifTrue
+own-other x h = eq-no (x .kind) 9 _ _ 0 h refl
+
+pub own-index : (x : Record) → x .kind ≡ 9 → x .a + 1 ≡ ownReach false (x .kind) (x .a)
+unfolding ownReach variable ifTrue
+own-index x h = eq-yes (x .kind) 9 _ _ (x .a + 1) h refl
+
+own-atom : (rd : Reader) (i : ℕ) (x : Record) → RecordIs rd i x → ownReach false (x .kind) (x .a) ≡ ownReach false (rd i 0) (atom rd i)
+own-atom rd i x e = go (eqb (x .kind) 9) refl
+  where
+    same : ownReach false (x .kind) (atom rd i) ≡ ownReach false (rd i 0) (atom rd i)
+    same = rw (e .kind-is) refl
+
+    go : (b : Bool) → eqb (x .kind) 9 ≡ b → ownReach false (x .kind) (x .a) ≡ ownReach false (rd i 0) (atom rd i)
+    go true t =
+        let h = eqb-true (x .kind) 9 t in
+        sym (own-index x h) ∙ own-variable rd false i (x .kind) 9 (variable-index false refl) (e .kind-is) h (x .a) (e .a-is) ∙ same
+    go false t =
+        let h = eqb-false (x .kind) 9 t in
+        sym (own-other x h) ∙ own-none rd false i (x .kind) 9 (variable-index false refl) h ∙ same
+
+-- The way out of `node_reach`: a node by its parts, ⊤ and kind 22 too.
+reach-zero : (rd : Reader) → reach false (bareTree rd 0) ≡ 0
+unfolding reach
+reach-zero rd = rw (bare-zero rd) refl
+
+module _ (rd : Reader) (i : ℕ) (p : 0 < i) where
+  reach-true : rd i 0 ≡ 15 → reach false (bareTree rd i) ≡ 0
+  unfolding reach larger ownReach variable crossed binders ifEq ifLt ifTrue
+  reach-true h = rw (bare-true rd i p h) refl
+
+  node-true : rd i 0 ≡ 15 → nodeReach rd i ≡ 0
+  unfolding nodeReach partReach ownReach variable crossed binders larger ifEq ifLt ifTrue
+  node-true h = rw (true-first rd i h, true-second rd i h, true-third rd i h, reach-zero rd, h) refl
+
+  node-all : rd i 0 ≡ 22 → nodeReach rd i ≡ reach false (bareTree rd i)
+  unfolding nodeReach partReach ownReach variable crossed binders ifEq ifTrue
+  node-all h =
+      rw (bare-all rd i p h, all-first rd i h, all-second rd i h, all-third rd i h, reach-zero rd, h)
+      (alone (reach false (bareTree rd (child rd i 2))))
+    where
+      alone : (y : ℕ) → larger 0 (larger 0 (larger (y - 0) 0)) ≡ y
+      alone y = none-larger (larger 0 (larger (y - 0) 0)) ∙ none-larger (larger (y - 0) 0) ∙ larger-none (y - 0) ∙ omega arith
+
+  node-any : nodeReach rd i ≡ reach false (bareTree rd i)
+  unfolding reach nodeReach partReach
+  node-any = go (eqb (rd i 0) 15) refl (eqb (rd i 0) 22) refl
+    where
+      plain : (rd i 0 ≡ 15 → ⊥) → (rd i 0 ≡ 22 → ⊥) → nodeReach rd i ≡ reach false (bareTree rd i)
+      plain no-true no-all = rw (bare-node rd i p no-true no-all) refl
+
+      go : (b : Bool) → eqb (rd i 0) 15 ≡ b → (c : Bool) → eqb (rd i 0) 22 ≡ c → nodeReach rd i ≡ reach false (bareTree rd i)
+      go true e c g = let h = eqb-true (rd i 0) 15 e in node-true h ∙ sym (reach-true h)
+      go false e true g = node-all (eqb-true (rd i 0) 22 g)
+      go false e false g = plain (eqb-false (rd i 0) 15 e) (eqb-false (rd i 0) 22 g)
+
+  pub node-made : (x : Record) → RecordIs rd i x → (own a b c u q s r : ℕ) → own ≡ ownReach false (x .kind) (x .a) →
+      a ≡ partReach rd i 1 → b ≡ partReach rd i 2 → c ≡ partReach rd i 3 →
+      u ≡ b - crossed false (x .kind) → q ≡ larger u c → s ≡ larger a q → r ≡ larger own s → r ≡ reach false (bareTree rd i)
+  unfolding nodeReach
+  node-made x e own a b c u q s r eo ea eb ec eu eq es er =
+      let made : r ≡ nodeReach rd i = rw (← own-atom rd i x e, ← e .kind-is, ← eo, ← ea, ← eb, ← ec, ← eu, ← eq, ← es) er in
+      made ∙ node-any
 
 -- The ways out of the recursion: the table has the records below n, or else the parts are put together.
-pub part-is : (rd : Reader) (i w x r : ℕ) → x ≡ partAt rd false i w → r ≡ reach false (bareTree rd x) → r ≡ partReach rd i w
-unfolding partReach
-part-is rd i w x r ex er = rw (← ex) er
-
-pub node-made : (rd : Reader) (i k own x y z u p q r : ℕ) → k ≡ rd i 0 → own ≡ ownReach false k (atom rd i) →
-    x ≡ partReach rd i 1 → y ≡ partReach rd i 2 → z ≡ partReach rd i 3 →
-    u ≡ y - crossed false k → p ≡ larger u z → q ≡ larger x p → r ≡ larger own q → r ≡ nodeReach rd i
-unfolding nodeReach
-node-made rd i k own x y z u p q r ek eo ex ey ez eu ep eq er = rw (← ek, ← eo, ← ex, ← ey, ← ez, ← eu, ← ep, ← eq) er
-
 pub reach-known : (rd : Reader) (reaches : List ℕ) (n i r : ℕ) → Reached rd reaches n → i < n → r ≡ getD reaches i 0 % 128 → r ≡ reach false (bareTree rd i)
 reach-known rd reaches n i r t h e = e ∙ t .holds i h
 
 pub reach-none : (rd : Reader) (i : ℕ) → i ≡ 0 → 0 ≡ reach false (bareTree rd i)
-unfolding reach
-reach-none rd i h = rw (h, bare-zero rd) refl
+reach-none rd i h = rw h (sym (reach-zero rd))
 
-module _ (rd : Reader) (i k : ℕ) (p : i ≡ 0 → ⊥) (ek : k ≡ rd i 0) where
-  pub reach-true : k ≡ 15 → 0 ≡ reach false (bareTree rd i)
-  unfolding reach larger ownReach variable crossed binders ifEq ifLt ifTrue
-  reach-true h = rw (bare-true rd i (omega arith) (sym ek ∙ h)) refl
+module _ (rd : Reader) (i : ℕ) (x : Record) (parts : Parts) (e : RecordIs rd i x) (are : PartsAre false i x parts) (r : ℕ) where
+  pub first-reach : r ≡ reach false (bareTree rd (parts .first)) → r ≡ partReach rd i 1
+  unfolding partReach
+  first-reach h = rw (← first-part rd i x parts e are) h
 
-  pub reach-all : (x r : ℕ) → k ≡ 22 → x ≡ child rd i 2 → r ≡ reach false (bareTree rd x) → r ≡ reach false (bareTree rd i)
-  reach-all x r h ex er = rw (bare-all rd i (omega arith) (sym ek ∙ h), ← ex) er
+  pub second-reach : r ≡ reach false (bareTree rd (parts .second)) → r ≡ partReach rd i 2
+  unfolding partReach
+  second-reach h = rw (← second-part rd i x parts e are) h
 
-  pub reach-node : (r : ℕ) → (k ≡ 15 → ⊥) → (k ≡ 22 → ⊥) → r ≡ nodeReach rd i → r ≡ reach false (bareTree rd i)
-  unfolding reach nodeReach partReach
-  reach-node r no-true no-all er = rw (bare-node rd i (omega arith) (λ h. no-true (ek ∙ h)) (λ h. no-all (ek ∙ h))) er
+  pub third-reach : r ≡ reach false (bareTree rd (parts .third)) → r ≡ partReach rd i 3
+  unfolding partReach
+  third-reach h = rw (← third-part rd i x parts e are) h
 
--- The ways out of `part_order` and, for kind 22, of `order_of`: the table has the smaller records.
-module _ (rd : Reader) (reaches : List ℕ) (i : ℕ) (t : Reached rd reaches i) (x r : ℕ) (er : r ≡ getD reaches x 0 / 256) where
-  pub part-ordered : (w : ℕ) → 0 < i → x ≡ partAt rd false i w → r ≡ partOrder rd i w
-  unfolding partOrder
-  part-ordered w p ex = let low : x < i = omega (arith, part-below rd false i w p) in rw (← ex) (er ∙ t .ordered x low)
+  -- The same for the orders, which the table has.
+  module _ (reaches : List ℕ) (t : Reached rd reaches i) (p : 0 < i) where
+    pub first-order : r ≡ getD reaches (parts .first) 0 / 256 → r ≡ partOrder rd i 1
+    unfolding partOrder
+    first-order h = rw (← first-part rd i x parts e are) (h ∙ t .ordered (parts .first) (first-low rd i x parts e are p i (omega arith)))
 
-  pub all-ordered : (k : ℕ) → (i ≡ 0 → ⊥) → k ≡ rd i 0 → k ≡ 22 → x ≡ child rd i 2 → r ≡ order (bareTree rd i)
-  all-ordered k p ek h ex =
-      let low : x < i = omega (arith, child-below rd i 2 (omega arith)) in
-      order-all rd i k p ek x r h ex (er ∙ t .ordered x low)
+    pub second-order : r ≡ getD reaches (parts .second) 0 / 256 → r ≡ partOrder rd i 2
+    unfolding partOrder
+    second-order h = rw (← second-part rd i x parts e are) (h ∙ t .ordered (parts .second) (second-low rd i x parts e are p i (omega arith)))
+
+    pub third-order : r ≡ getD reaches (parts .third) 0 / 256 → r ≡ partOrder rd i 3
+    unfolding partOrder
+    third-order h = rw (← third-part rd i x parts e are) (h ∙ t .ordered (parts .third) (third-low rd i x parts e are p i (omega arith)))
 
 -- Where indices are below 64, no reach is more than 64, which fits an entry.
 pub larger-most : (a b n : ℕ) → a ≤ n → b ≤ n → larger a b ≤ n
@@ -126,7 +196,7 @@ module _ (rd : Reader) (n : ℕ) (indexed : Indexed rd n) where
   reach-step i p h part = go (eqb (rd i 0) 15) refl (eqb (rd i 0) 22) refl
     where
       go : (b : Bool) → eqb (rd i 0) 15 ≡ b → (c : Bool) → eqb (rd i 0) 22 ≡ c → reach false (bareTree rd i) ≤ 64
-      go true e c g = omega (arith, reach-true rd i (rd i 0) (λ z. omega arith) refl (eqb-true (rd i 0) 15 e))
+      go true e c g = omega (arith, reach-true rd i p (eqb-true (rd i 0) 15 e))
       go false e true g = rw (bare-all rd i p (eqb-true (rd i 0) 22 g)) (part (child rd i 2) (child-below rd i 2 p))
       go false e false g =
           let y = part (partAt rd false i 2) (part-below rd false i 2 p) in
@@ -150,6 +220,10 @@ module _ (rd : Reader) (n : ℕ) (indexed : Indexed rd n) where
       let rest : (r + 256 * o) % 128 ≡ r = omega arith in
       let high : (r + 256 * o) / 256 ≡ o = omega arith in
       record { reached = rest ∙ e; unmarked = omega arith; ordered = high ∙ eo }
+
+-- the entry of record 0
+pub entry-none : (rd : Reader) (i : ℕ) → i ≡ 0 → EntryOf rd i 0
+entry-none rd i h = record { reached = reach-none rd i h; unmarked = omega arith; ordered = order-none rd i h }
 
 -- The loop: the entries of the records below n are made.
 pub record Filled (rd : Reader) (reaches : List ℕ) (n : ℕ) : Type 0 where
@@ -181,18 +255,6 @@ filled-unmarked rd reaches i h f = record { none = λ j. go j (ltb j i) refl }
         omega (arith, List·getD-eq-default reaches 0 past)
 
 -- The ways out of the code that reads the table by keys.
-larger-none : (a : ℕ) → larger a 0 ≡ a
-unfolding larger ifLt
-larger-none a = simp (larger, ifLt, le-ltb a 0 (omega arith))
-
-none-larger : (a : ℕ) → larger 0 a ≡ a
-unfolding larger ifLt
-none-larger a = go (ltb 0 a) refl
-  where
-    go : (b : Bool) → ltb 0 a ≡ b → elim b as (λ x. ℕ) [ true ↦ a | false ↦ 0 ] ≡ a
-    go true e = refl
-    go false e = omega (arith, ltb-false 0 a e)
-
 reach-not : (t : Tree) → reach false (¬ᵗ t) ≡ reach false t
 unfolding reach ownReach variable crossed binders ifEq ifTrue
 reach-not t = rw (larger-none 0, larger-none (reach false t), none-larger (reach false t)) refl

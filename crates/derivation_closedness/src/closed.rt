@@ -1,22 +1,22 @@
 // Closedness: how far the indices of a record's tree reach. A recursion over the parts of a record; a table in front of it remembers what was found, so that
 // a test is one comparison. Entry i of the table is reach + 128 * mark + 256 * order of record i: of the marks see derivation_marks, of the order orders.rt.
 use crate::orders::order_of;
-use reader::trees;
-use reader::words;
 use reader_closedness::reaches::larger;
-use reader_closedness::reaches::own_reach;
 use reader_closedness::reaches::under;
-use reader_equality::keys::part_at;
+use reader_equality::shapes;
+use reader_view::Record;
+use reader_view::views;
 ghost use mathlib.Core.Bool.{false};
 ghost use mathlib.Core.Path.{_≡_};
 ghost use Prim.Native.Nat.{_%_, _<_, _≤_, _/_};
 ghost use lib.ListN.{length, getD};
 ghost use Rattle.reader.specs.Words.{word};
 ghost use Rattle.reader.specs.Variables.{indicesBelow};
-ghost use Rattle.reader_closedness.specs.Reach.{reach};
+ghost use Rattle.reader_view.specs.Records.{RecordIs};
+ghost use Rattle.reader_closedness.specs.Reach.{ownReach, reach};
 ghost use Rattle.derivation_rules.specs.Erase.{bareTree};
 ghost use Rattle.derivation_trees.specs.Keys.{decoded, Normal};
-ghost use Rattle.derivation_closedness.specs.Reaches.{Indexed, Reached, Unmarked, EntryOf, partReach, nodeReach};
+ghost use Rattle.derivation_closedness.specs.Reaches.{Indexed, Reached, Unmarked, EntryOf, partReach};
 
 // The reach that entry i of the table has.
 fn known_reach(reaches: &[u16], i: usize) -> usize
@@ -36,42 +36,41 @@ pub fn known_order(reaches: &[u16], i: usize) -> usize
     (reaches[i] / 256) as usize
 }
 
-// How far part w of record i, whose kind is k, reaches.
-fn part_reach(
-    obligation: &[u8],
-    second: &[u8],
-    m: usize,
-    reaches: &[u16],
-    n: usize,
-    i: usize,
-    k: usize,
-    w: u8,
-) -> usize
-    requires { ⌜ (k ≡ word (now obligation) (now second) m i 0) × (0 < i) × (n ≤ length (now reaches)) × Reached (word (now obligation) (now second) m) (now reaches) n ⌝ }
-    ensures { λ r. ⌜ r ≡ partReach (word (now (obligation .entry)) (now (second .entry)) m) i w ⌝ }
+// Record i: its words are no larger than a word.
+fn record_at(obligation: &[u8], second: &[u8], m: usize, i: usize) -> Record
+    ensures { λ r. ⌜ RecordIs (word (now (obligation .entry)) (now (second .entry)) m) i r × (r .a < 4294967296) ⌝ }
 {
-    let x = part_at(obligation, second, m, false, i, k, w);
-    reach_of(obligation, second, m, reaches, n, x)
+    views::record_of(obligation, second, m, i)
 }
 
-// How far record i, whose kind is k, reaches by its own index and its parts.
+// How far a record, whose words are x, reaches for itself: a variable as far as its index.
+fn own_reach(x: Record) -> usize
+    requires { ⌜ x .a < 4294967296 ⌝ }
+    ensures { λ r. ⌜ r ≡ ownReach false (x .kind) (x .a) ⌝ }
+{
+    if x.kind != 9 {
+        return 0;
+    }
+    x.a + 1
+}
+
+// How far record i, whose words are x, reaches by its own index and its parts, which reach as far as a, b and c. ⊤ has no parts, and kind 22 none but its formula:
+// so they come out as what they read as.
 fn node_reach(
     obligation: &[u8],
     second: &[u8],
     m: usize,
-    reaches: &[u16],
-    n: usize,
     i: usize,
-    k: usize,
+    x: Record,
+    a: usize,
+    b: usize,
+    c: usize,
 ) -> usize
-    requires { ⌜ (k ≡ word (now obligation) (now second) m i 0) × (0 < i) × (n ≤ length (now reaches)) × Reached (word (now obligation) (now second) m) (now reaches) n ⌝ }
-    ensures { λ r. ⌜ r ≡ nodeReach (word (now (obligation .entry)) (now (second .entry)) m) i ⌝ }
+    requires { ⌜ (0 < i) × RecordIs (word (now obligation) (now second) m) i x × (x .a < 4294967296) × (a ≡ partReach (word (now obligation) (now second) m) i 1) × (b ≡ partReach (word (now obligation) (now second) m) i 2) × (c ≡ partReach (word (now obligation) (now second) m) i 3) ⌝ }
+    ensures { λ r. ⌜ r ≡ reach false (bareTree (word (now (obligation .entry)) (now (second .entry)) m) i) ⌝ }
 {
-    let own = own_reach(obligation, second, m, false, i, k);
-    let x = part_reach(obligation, second, m, reaches, n, i, k, 1);
-    let y = part_reach(obligation, second, m, reaches, n, i, k, 2);
-    let z = part_reach(obligation, second, m, reaches, n, i, k, 3);
-    larger(own, larger(x, larger(under(false, k, y), z)))
+    let own = own_reach(x);
+    larger(own, larger(a, larger(under(false, x.kind, b), c)))
 }
 
 // How far record i reaches: as the table says, which has the records below n, or else as far as its parts, which are smaller records.
@@ -92,24 +91,47 @@ fn reach_of(
     if i == 0 {
         return 0;
     }
-    let k = words::word_at(obligation, second, m, i, 0);
-    if k == 15 {
-        return 0;
-    }
-    if k == 22 {
-        let x = trees::child_at(obligation, second, m, i, 2);
-        return reach_of(obligation, second, m, reaches, n, x);
-    }
-    node_reach(obligation, second, m, reaches, n, i, k)
+    let x = record_at(obligation, second, m, i);
+    let parts = shapes::parts_in(false, i, x);
+    let a = reach_of(obligation, second, m, reaches, n, parts.first);
+    let b = reach_of(obligation, second, m, reaches, n, parts.second);
+    let c = reach_of(obligation, second, m, reaches, n, parts.third);
+    node_reach(obligation, second, m, i, x, a, b, c)
 }
 
-// The entry of record i, from a table that has the smaller records, so that the recursion goes no deeper than the record's parts.
+// The same for a part: where the table has it, no call is made.
+fn part_reach(
+    obligation: &[u8],
+    second: &[u8],
+    m: usize,
+    reaches: &[u16],
+    n: usize,
+    i: usize,
+) -> usize
+    requires { ⌜ (n ≤ length (now reaches)) × Reached (word (now obligation) (now second) m) (now reaches) n ⌝ }
+    ensures { λ r. ⌜ r ≡ reach false (bareTree (word (now (obligation .entry)) (now (second .entry)) m) i) ⌝ }
+{
+    if i < n {
+        return known_reach(reaches, i);
+    }
+    reach_of(obligation, second, m, reaches, n, i)
+}
+
+// The entry of record i, from a table that has the smaller records, its parts among them.
 fn entry_of(obligation: &[u8], second: &[u8], m: usize, reaches: &[u16], i: usize) -> u16
     requires { ⌜ (i < length (now reaches)) × Indexed (word (now obligation) (now second) m) (length (now reaches)) × Reached (word (now obligation) (now second) m) (now reaches) i ⌝ }
     ensures { λ r. ⌜ EntryOf (word (now (obligation .entry)) (now (second .entry)) m) i r ⌝ }
 {
-    let r = reach_of(obligation, second, m, reaches, i, i);
-    let order = order_of(obligation, second, m, reaches, i);
+    if i == 0 {
+        return 0;
+    }
+    let x = record_at(obligation, second, m, i);
+    let parts = shapes::parts_in(false, i, x);
+    let a = part_reach(obligation, second, m, reaches, i, parts.first);
+    let b = part_reach(obligation, second, m, reaches, i, parts.second);
+    let c = part_reach(obligation, second, m, reaches, i, parts.third);
+    let r = node_reach(obligation, second, m, i, x, a, b, c);
+    let order = order_of(obligation, second, m, reaches, i, x, parts);
     (r + 256 * order) as u16
 }
 

@@ -1,33 +1,25 @@
 // The order of a record, a number up to 255 that the table has beside its reach: the largest of its parts' orders, and one more where two parts have that.
 // A recursion into all parts but one of the largest order, which a loop takes, is then no deeper than the order.
-use crate::closed::known_order;
-use reader::trees;
-use reader::words;
 use reader_closedness::reaches::larger;
-use reader_equality::keys::part_at;
+use reader_equality::Parts;
+use reader_view::Record;
+ghost use mathlib.Core.Bool.{false};
 ghost use mathlib.Core.Path.{_≡_};
-ghost use Prim.Native.Nat.{_<_, _≤_};
-ghost use lib.ListN.{length};
+ghost use Prim.Native.Nat.{_<_, _≤_, _/_};
+ghost use lib.ListN.{length, getD};
 ghost use Rattle.reader.specs.Words.{word};
+ghost use Rattle.reader_view.specs.Records.{RecordIs};
+ghost use Rattle.reader_equality.specs.Shapes.{PartsAre};
 ghost use Rattle.derivation_rules.specs.Erase.{bareTree};
-ghost use Rattle.derivation_closedness.specs.Orders.{shared, order, orderAbove, partOrder};
+ghost use Rattle.derivation_closedness.specs.Orders.{shared, order, orderAbove};
 ghost use Rattle.derivation_closedness.specs.Reaches.{Reached};
 
-// The order of part w of record i, whose kind is k.
-fn part_order(
-    obligation: &[u8],
-    second: &[u8],
-    m: usize,
-    reaches: &[u16],
-    i: usize,
-    k: usize,
-    w: u8,
-) -> usize
-    requires { ⌜ (k ≡ word (now obligation) (now second) m i 0) × (0 < i) × Reached (word (now obligation) (now second) m) (now reaches) i ⌝ }
-    ensures { λ r. ⌜ r ≡ partOrder (word (now (obligation .entry)) (now (second .entry)) m) i w ⌝ }
+// The order that entry i of the table has.
+fn entry_order(reaches: &[u16], i: usize) -> usize
+    requires { ⌜ i < length (now reaches) ⌝ }
+    ensures { λ r. ⌜ r ≡ getD (now (reaches .entry)) i 0 / 256 ⌝ }
 {
-    let x = part_at(obligation, second, m, false, i, k, w);
-    known_order(reaches, x)
+    (reaches[i] / 256) as usize
 }
 
 // Have two of three parts the largest order? The orders are a, b and c.
@@ -60,23 +52,24 @@ fn order_above(a: usize, b: usize, c: usize) -> usize
     most
 }
 
-// The order of record i, by those of smaller records.
-pub fn order_of(obligation: &[u8], second: &[u8], m: usize, reaches: &[u16], i: usize) -> usize
-    requires { ⌜ Reached (word (now obligation) (now second) m) (now reaches) i ⌝ }
+// The order of record i, whose words are x, by those of its parts, which the table has. Kind 22 has that of its formula, even of none.
+pub fn order_of(
+    obligation: &[u8],
+    second: &[u8],
+    m: usize,
+    reaches: &[u16],
+    i: usize,
+    x: Record,
+    parts: Parts,
+) -> usize
+    requires { ⌜ (0 < i) × (i ≤ length (now reaches)) × RecordIs (word (now obligation) (now second) m) i x × PartsAre false i x parts × Reached (word (now obligation) (now second) m) (now reaches) i ⌝ }
     ensures { λ r. ⌜ r ≡ order (bareTree (word (now (obligation .entry)) (now (second .entry)) m) i) ⌝ }
 {
-    if i == 0 {
-        return 0;
+    let a = entry_order(reaches, parts.first);
+    let b = entry_order(reaches, parts.second);
+    let c = entry_order(reaches, parts.third);
+    if x.kind == 22 {
+        return b;
     }
-    let k = words::word_at(obligation, second, m, i, 0);
-    if k == 15 {
-        return 1;
-    }
-    if k == 22 {
-        return known_order(reaches, trees::child_at(obligation, second, m, i, 2));
-    }
-    let a = part_order(obligation, second, m, reaches, i, k, 1);
-    let b = part_order(obligation, second, m, reaches, i, k, 2);
-    let c = part_order(obligation, second, m, reaches, i, k, 3);
     order_above(a, b, c)
 }

@@ -10,7 +10,8 @@ use borrow.Author.Tests.{eq-eqb, ne-eqb, eqb-true, eqb-false, not-true, not-fals
 use Rattle.reader.specs.Words.{Reader}
 use Rattle.reader.specs.Tests.{both, every, ifEq, ifLt}
 use Rattle.reader.specs.TestLaws.{eq-yes, eq-no}
-use Rattle.reader.specs.Trees.{Tree, lower}
+use Rattle.reader.specs.Kinds.{class}
+use Rattle.reader.specs.Trees.{Tree, lower, kindOf}
 use Rattle.reader.specs.Chains.{parts}
 use Rattle.reader.specs.TreeLaws.{lower-below, items-zero, items-step}
 use Rattle.reader.specs.Shapes.{Shape, formula, hasShape, haveShapes}
@@ -19,7 +20,7 @@ use Rattle.derivation_rules.specs.Rules.{State, row}
 use Rattle.derivation_rules.specs.Check.{goalFormed}
 use Rattle.derivation_trees.specs.Keys.{decoded, Normal}
 use Rattle.derivation_trees.specs.Table.{KeyOf}
-use Rattle.derivation_trees.specs.Shapes.{shapeOf}
+use Rattle.derivation_trees.specs.Shapes.{shapeOf, shape-class}
 use Rattle.derivation_frames.specs.Frames.{chainTrees}
 use Rattle.derivation_forms.specs.Forms.{lower-most}
 use Rattle.reader_bytes.specs.Bytes.{partsOf}
@@ -117,25 +118,32 @@ unfolding haveShapes both shapesOf
 shapes-next zero code t ts h = absurd (h refl)
 shapes-next (suc n) code t ts h = let z : suc n - 1 ≡ n = omega arith in rw z refl
 
--- The ways out of `have_shapes`.
-module _ (rd : Reader) (c n code : ℕ) where
-  pub shapes-end : c ≡ 0 → eqb n 0 ≡ haveShapes (shapesOf n code) (chainTrees rd c)
+-- The ways out of `have_shapes`: the items that are left have the shapes that are left.
+module _ (rd : Reader) (c n code l left rest : ℕ) (inv : haveShapes (shapesOf n code) (chainTrees rd c) ≡ haveShapes (shapesOf left rest) (chainTrees rd l)) where
+  pub shapes-end : l ≡ 0 → eqb left 0 ≡ haveShapes (shapesOf n code) (chainTrees rd c)
   unfolding haveShapes shapesOf
-  shapes-end h = rw (h, chain-zero rd) (go n)
+  shapes-end h = rw (inv, h, chain-zero rd) (go left)
     where
-      go : (k : ℕ) → eqb k 0 ≡ haveShapes (shapesOf k code) []
+      go : (k : ℕ) → eqb k 0 ≡ haveShapes (shapesOf k rest) []
       go zero = refl
       go (suc k) = eqb·suc-zero k
 
-  pub shapes-over : (c ≡ 0 → ⊥) → n ≡ 0 → false ≡ haveShapes (shapesOf n code) (chainTrees rd c)
+  pub shapes-over : (l ≡ 0 → ⊥) → left ≡ 0 → false ≡ haveShapes (shapesOf n code) (chainTrees rd c)
   unfolding haveShapes shapesOf
-  shapes-over h z = rw (z, chain-step rd c (omega arith)) refl
+  shapes-over h z = rw (inv, z, chain-step rd l (omega arith)) refl
 
-  module _ (given : c ≡ 0 → ⊥) (wanted : n ≡ 0 → ⊥) (item rest : ℕ) (ei : item ≡ lower rd c 1) (er : rest ≡ lower rd c 3) where
-    pub shapes-more : (r : Bool) →
-        r ≡ both (hasShape (shapeOf (code % 256)) (bareTree rd item)) (haveShapes (shapesOf (n - 1) (code / 256)) (chainTrees rd rest)) →
-        r ≡ haveShapes (shapesOf n code) (chainTrees rd c)
-    shapes-more r e = rw (chain-step rd c (omega arith), shapes-next n code _ _ wanted, ← ei, ← er) e
+  module _ (given : l ≡ 0 → ⊥) (wanted : left ≡ 0 → ⊥) (item : ℕ) (ei : item ≡ lower rd l 1) (r : Bool) (er : r ≡ hasShape (shapeOf (rest % 256)) (bareTree rd item)) where
+    turn : (next : ℕ) → next ≡ lower rd l 3 → haveShapes (shapesOf n code) (chainTrees rd c) ≡ both r (haveShapes (shapesOf (left - 1) (rest / 256)) (chainTrees rd next))
+    turn next e = rw (inv, chain-step rd l (omega arith), shapes-next left rest _ _ wanted, ← ei, ← e, ← er) refl
+
+    pub shapes-stop : not r ≡ true → false ≡ haveShapes (shapesOf n code) (chainTrees rd c)
+    unfolding both
+    shapes-stop h = rw (turn (lower rd l 3) refl) (simp (both, not-true r h))
+
+    pub shapes-more : not r ≡ false → (next : ℕ) → next ≡ lower rd l 3 →
+        haveShapes (shapesOf n code) (chainTrees rd c) ≡ haveShapes (shapesOf (left - 1) (rest / 256)) (chainTrees rd next)
+    unfolding both
+    shapes-more h next e = rw (turn next e) (simp (both, not-false r h))
 
 -- The ways out of a loop along a chain that makes a test on each item.
 module _ (rd : Reader) (test : Tree → Bool) (c l : ℕ) (inv : every test (chainTrees rd c) ≡ every test (chainTrees rd l)) where
@@ -152,8 +160,11 @@ module _ (rd : Reader) (test : Tree → Bool) (c l : ℕ) (inv : every test (cha
     unfolding every
     chain-more h rest e = rw (inv, chain-step rd l (omega arith), ← ei, ← e) (simp (every, ← er, not-false r h))
 
-pub key-formula : (rd : Reader) (size x item : ℕ) (r : Bool) → KeyOf rd size x (bareTree rd item) → r ≡ hasShape (shapeOf 37) (decoded rd x) → r ≡ isFormula (bareTree rd item)
+pub formula-class : (rd : Reader) (key k c : ℕ) → k ≡ kindOf (decoded rd key) → c ≡ class k → eqb c 5 ≡ isFormula (decoded rd key)
 unfolding isFormula
+formula-class rd key k c ek ec = shape-class rd key 37 k ek (omega arith) (omega arith) c ec
+
+pub key-formula : (rd : Reader) (size x item : ℕ) (r : Bool) → KeyOf rd size x (bareTree rd item) → r ≡ isFormula (decoded rd x) → r ≡ isFormula (bareTree rd item)
 key-formula rd size x item r k e = rw (← k .stands .means) e
 
 -- The ways out of `parts_formed` and `goal_formed`.

@@ -32,10 +32,6 @@ pub record Formed (rd : Reader) (size goal more r : ℕ) (t : Tree) : Type 0 whe
   pub stands : Stands rd size r t
   pub few : (b : ℕ) → size ≤ b → negationsOf goal ≤ b → negationsOf r ≤ b + more
 
--- part j of node n, 0 where it has none
-unfoldable pub partRecord : Reader → ℕ → ℕ → ℕ
-partRecord rd n j = itemAt rd (lower rd n 1) j
-
 past : {A B : Type 0} (f : A → B) (xs : List A) (j : ℕ) (a : A) (b : B) → b ≡ f a → getD (map f xs) j b ≡ f (getD xs j a)
 past f [] zero a b e = e
 past f [] (suc j) a b e = e
@@ -46,8 +42,9 @@ bare-zero : (rd : Reader) → leaf ≡ bareTree rd 0
 unfolding bareTree ⌊_⌋
 bare-zero rd = rw (tree-zero rd) refl
 
-pub part-tree : (rd : Reader) (n j : ℕ) → part (bareParts rd n) j ≡ bareTree rd (partRecord rd n j)
-unfolding bareParts parts partRecord
+-- part j of a node, the empty tree where it has none
+part-tree : (rd : Reader) (n j : ℕ) → part (bareParts rd n) j ≡ bareTree rd (itemAt rd (lower rd n 1) j)
+unfolding bareParts parts
 part-tree rd n j = past (bareTree rd) (items rd (lower rd n 1)) j 0 leaf (bare-zero rd) ∙ ap (bareTree rd) (sym (item-items rd j (lower rd n 1)))
 
 pub lower-most : (rd : Reader) (i w : ℕ) → lower rd i w ≤ i
@@ -60,16 +57,9 @@ link-most rd (suc j) zero = omega (arith, link-none rd (suc j))
 link-most rd (suc j) (suc c) =
     omega (arith, link-next rd (suc c) j (omega arith), link-most rd j (lower rd (suc c) 3), lower-below rd (suc c) 3 (omega arith))
 
-part-most : (rd : Reader) (n j : ℕ) → partRecord rd n j ≤ n
-unfolding partRecord itemAt
-part-most rd n j = omega (arith, lower-most rd n 1, link-most rd j (lower rd n 1), lower-most rd (linkAt rd (lower rd n 1) j) 1)
-
-pub part-in : (rd : Reader) (n j r size : ℕ) → n < size → r ≡ partRecord rd n j → r < size
-part-in rd n j r size h e = omega (arith, part-most rd n j)
-
-pub part-is : (rd : Reader) (n j c r : ℕ) → c ≡ lower rd n 1 → r ≡ itemAt rd c j → r ≡ partRecord rd n j
-unfolding partRecord
-part-is rd n j c r ec e = rw (← ec) e
+pub source-in : (rd : Reader) (keys : List ℕ) (goal n j c r : ℕ) → Given rd keys goal n → c ≡ lower rd n 1 → r ≡ itemAt rd c j → r < length keys
+unfolding itemAt
+source-in rd keys goal n j c r given ec e = omega (arith, given .within, lower-most rd n 1, link-most rd j c, lower-most rd (linkAt rd c j) 1)
 
 -- The ways out of `source_key`.
 module _ (rd : Reader) (keys : List ℕ) (goal n w : ℕ) (given : Given rd keys goal n) where
@@ -80,13 +70,13 @@ module _ (rd : Reader) (keys : List ℕ) (goal n w : ℕ) (given : Given rd keys
     few = λ b p q. omega arith;
   }
 
-  pub source-part : 2 ≤ w → (part r : ℕ) → part ≡ partRecord rd n (w - 2) → KeyOf rd (length keys) r (bareTree rd part) →
+  pub source-part : 2 ≤ w → (c part r : ℕ) → c ≡ lower rd n 1 → part ≡ itemAt rd c (w - 2) → KeyOf rd (length keys) r (bareTree rd part) →
       Formed rd (length keys) goal 0 r (sourceTree (bareParts rd n) (decoded rd goal) w)
   unfolding sourceTree ifLt
-  source-part h part r ep k = record {
+  source-part h c part r ec ep k = record {
     stands = record {
       normal = k .stands .normal;
-      means = k .stands .means ∙ simp (sourceTree, ifLt, le-ltb w 2 h, part-tree rd n (w - 2), ← ep);
+      means = k .stands .means ∙ simp (sourceTree, ifLt, le-ltb w 2 h, part-tree rd n (w - 2), ← ec, ← ep);
     };
     few = λ b p q. omega (arith, k .few);
   }

@@ -2,11 +2,11 @@
 use Prim.Native.Nat.{ℕ, zero, suc, _-_}
 use mathlib.Core.Path.{_≡_, refl}
 use mathlib.Core.List.{List, _∷_}
-use mathlib.Core.Bool.{Bool, true, false}
+use mathlib.Core.Bool.{Bool, true, false, not}
 use lib.Dec.{eqb, eqb·suc-zero, eqb·suc-suc}
 use lib.ListN.{length}
 use native.Mathlib.Omega.{arith}
-use borrow.Author.Tests.{ne-eqb}
+use borrow.Author.Tests.{ne-eqb, not-true, not-false}
 use Rattle.reader.specs.Words.{Reader}
 use Rattle.reader.specs.Tests.{both, every}
 use Rattle.reader.specs.Kinds.{isRule}
@@ -34,24 +34,32 @@ one-more rule x xs (suc n) h =
     go false true e = refl
     go false false e = refl
 
--- The ways out of `are_nodes`.
-module _ (rd : Reader) (c n : ℕ) where
-  pub nodes-end : c ≡ 0 → eqb n 0 ≡ areNodes rd c n
+-- The ways out of `are_nodes`: as many items are left as are wanted still.
+module _ (rd : Reader) (c n l left : ℕ) (inv : areNodes rd c n ≡ areNodes rd l left) where
+  pub nodes-end : l ≡ 0 → eqb left 0 ≡ areNodes rd c n
   unfolding areNodes both every
-  nodes-end h = rw (h, items-zero rd) (go n)
+  nodes-end h = rw (inv, h, items-zero rd) (go left)
     where
       go : (k : ℕ) → eqb k 0 ≡ both (eqb 0 k) true
       go zero = refl
       go (suc k) = simp (ne-eqb (suc k) 0 (λ z. omega arith), ne-eqb 0 (suc k) (λ z. omega arith))
 
-  pub nodes-over : (c ≡ 0 → ⊥) → n ≡ 0 → false ≡ areNodes rd c n
+  pub nodes-over : (l ≡ 0 → ⊥) → left ≡ 0 → false ≡ areNodes rd c n
   unfolding areNodes both
-  nodes-over h z = rw (z, items-step rd c (omega arith)) (simp (both, eqb·suc-zero (length (items rd (lower rd c 3)))))
+  nodes-over h z = rw (inv, z, items-step rd l (omega arith)) (simp (both, eqb·suc-zero (length (items rd (lower rd l 3)))))
 
-  module _ (given : c ≡ 0 → ⊥) (wanted : n ≡ 0 → ⊥) (item rest k : ℕ) (ei : item ≡ lower rd c 1) (er : rest ≡ lower rd c 3) (ek : k ≡ rd item 0) where
-    pub nodes-more : (r : Bool) → r ≡ both (isRule 2 k) (areNodes rd rest (n - 1)) → r ≡ areNodes rd c n
+  module _ (given : l ≡ 0 → ⊥) (wanted : left ≡ 0 → ⊥) (item k : ℕ) (ei : item ≡ lower rd l 1) (ek : k ≡ rd item 0) (r : Bool) (er : r ≡ isRule 2 k) where
+    turn : (next : ℕ) → next ≡ lower rd l 3 → areNodes rd c n ≡ both r (areNodes rd next (left - 1))
     unfolding areNodes
-    nodes-more r e = rw (items-step rd c (omega arith), one-more _ _ _ n wanted, ← ei, ← er, ← ek) e
+    turn next e = rw (inv, items-step rd l (omega arith), one-more _ _ _ left wanted, ← ei, ← e, ← ek, ← er) refl
+
+    pub nodes-stop : not r ≡ true → false ≡ areNodes rd c n
+    unfolding both
+    nodes-stop h = rw (turn (lower rd l 3) refl) (simp (both, not-true r h))
+
+    pub nodes-more : not r ≡ false → (next : ℕ) → next ≡ lower rd l 3 → areNodes rd c n ≡ areNodes rd next (left - 1)
+    unfolding both
+    nodes-more h next e = rw (turn next e) (simp (both, not-false r h))
 
 -- the premises of a node
 pub premises-of : (rd : Reader) (n c count : ℕ) (r : Bool) → c ≡ lower rd n 2 → r ≡ areNodes rd c count → r ≡ premisesFit 2 rd n count

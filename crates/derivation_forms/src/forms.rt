@@ -6,20 +6,13 @@ use reader_chains::chains;
 ghost use mathlib.Core.Path.{_≡_};
 ghost use lib.ListN.{length};
 ghost use Rattle.reader.specs.Words.{word};
+ghost use Rattle.reader.specs.Trees.{lower};
 ghost use Rattle.derivation_rules.specs.Erase.{bareParts};
 ghost use Rattle.derivation_trees.specs.Keys.{decoded};
 ghost use Rattle.derivation_tables.specs.Tables.{sourceTree, formTree};
-ghost use Rattle.derivation_forms.specs.Forms.{Given, Formed, partRecord};
+ghost use Rattle.derivation_forms.specs.Forms.{Given, Formed};
 
-// Part j of node n, 0 where it has none.
-pub fn part_of(obligation: &[u8], second: &[u8], m: usize, n: usize, j: usize) -> usize
-    ensures { λ r. ⌜ r ≡ partRecord (word (now (obligation .entry)) (now (second .entry)) m) n j ⌝ }
-{
-    let c = trees::lower_at(obligation, second, m, n, 1);
-    chains::item_at(obligation, second, m, c, j)
-}
-
-// The key of source w: 1 the goal, from 2 on the parts of node n.
+// The key of source w: 1 the goal, from 2 on the parts of node n, whose chain is c.
 fn source_key(
     obligation: &[u8],
     second: &[u8],
@@ -27,16 +20,44 @@ fn source_key(
     keys: &[usize],
     goal: usize,
     n: usize,
+    c: usize,
     w: usize,
 ) -> usize
-    requires { ⌜ Given (word (now obligation) (now second) m) (now keys) goal n ⌝ }
+    requires { ⌜ Given (word (now obligation) (now second) m) (now keys) goal n × (c ≡ lower (word (now obligation) (now second) m) n 1) ⌝ }
     ensures { λ r. ⌜ Formed (word (now (obligation .entry)) (now (second .entry)) m) (length (now (keys .entry))) goal 0 r (sourceTree (bareParts (word (now (obligation .entry)) (now (second .entry)) m) n) (decoded (word (now (obligation .entry)) (now (second .entry)) m) goal) w) ⌝ }
 {
     if w < 2 {
         return goal;
     }
-    let part = part_of(obligation, second, m, n, w - 2);
+    let part = chains::item_at(obligation, second, m, c, w - 2);
     keys::key_of(obligation, second, m, keys, part)
+}
+
+// The key of what the form names of node n, whose chain of parts is c.
+pub fn form_in(
+    obligation: &[u8],
+    second: &[u8],
+    m: usize,
+    keys: &[usize],
+    goal: usize,
+    n: usize,
+    c: usize,
+    form: usize,
+) -> usize
+    requires { ⌜ Given (word (now obligation) (now second) m) (now keys) goal n × (c ≡ lower (word (now obligation) (now second) m) n 1) ⌝ }
+    ensures { λ r. ⌜ Formed (word (now (obligation .entry)) (now (second .entry)) m) (length (now (keys .entry))) goal 1 r (formTree (bareParts (word (now (obligation .entry)) (now (second .entry)) m) n) (decoded (word (now (obligation .entry)) (now (second .entry)) m) goal) form) ⌝ }
+{
+    let x = source_key(obligation, second, m, keys, goal, n, c, form / 4);
+    if form % 4 == 0 {
+        return x;
+    }
+    if form % 4 == 1 {
+        return parts::first_of(obligation, second, m, keys, x);
+    }
+    if form % 4 == 2 {
+        return parts::second_of(obligation, second, m, keys, x);
+    }
+    keys::negated(obligation, second, m, keys, x)
 }
 
 // The key of what the form names.
@@ -52,15 +73,6 @@ pub fn form_key(
     requires { ⌜ Given (word (now obligation) (now second) m) (now keys) goal n ⌝ }
     ensures { λ r. ⌜ Formed (word (now (obligation .entry)) (now (second .entry)) m) (length (now (keys .entry))) goal 1 r (formTree (bareParts (word (now (obligation .entry)) (now (second .entry)) m) n) (decoded (word (now (obligation .entry)) (now (second .entry)) m) goal) form) ⌝ }
 {
-    let x = source_key(obligation, second, m, keys, goal, n, form / 4);
-    if form % 4 == 0 {
-        return x;
-    }
-    if form % 4 == 1 {
-        return parts::first_of(obligation, second, m, keys, x);
-    }
-    if form % 4 == 2 {
-        return parts::second_of(obligation, second, m, keys, x);
-    }
-    keys::negated(obligation, second, m, keys, x)
+    let c = trees::lower_at(obligation, second, m, n, 1);
+    form_in(obligation, second, m, keys, goal, n, c, form)
 }

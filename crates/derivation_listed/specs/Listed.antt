@@ -15,21 +15,29 @@ use Rattle.reader_slots.specs.Slots.{Path, In, Placed, Put, Ended, placed-none,
 
 -- a number as a key of the search tree
 unfoldable pub spread : ℕ → Key
-spread k = key (k % 256) (k / 256 % 256) (k / 256 / 256 % 256) (k / 256 / 256 / 256 % 256) (k / 256 / 256 / 256 / 256)
+spread k = key (k % 512) (k / 512 % 512) (k / 512 / 512) 0 0
 
-pub spread-one : (k l : ℕ) → spread k ≡ spread l → k ≡ l
+spread-one : (k l : ℕ) → spread k ≡ spread l → k ≡ l
 unfolding spread
 spread-one k l e =
-    let a : k % 256 ≡ l % 256 = ap (λ (x : Key). x .kind) e in
-    let b : k / 256 % 256 ≡ l / 256 % 256 = ap (λ (x : Key). x .atom) e in
-    let c : k / 256 / 256 % 256 ≡ l / 256 / 256 % 256 = ap (λ (x : Key). x .first) e in
-    let d : k / 256 / 256 / 256 % 256 ≡ l / 256 / 256 / 256 % 256 = ap (λ (x : Key). x .second) e in
-    let f : k / 256 / 256 / 256 / 256 ≡ l / 256 / 256 / 256 / 256 = ap (λ (x : Key). x .third) e in
-    omega (arith, a, b, c, d, f)
+    let a : k % 512 ≡ l % 512 = ap (λ (x : Key). x .kind) e in
+    let b : k / 512 % 512 ≡ l / 512 % 512 = ap (λ (x : Key). x .atom) e in
+    let c : k / 512 / 512 ≡ l / 512 / 512 = ap (λ (x : Key). x .first) e in
+    omega (arith, a, b, c)
 
 -- the key at position j
 unfoldable pub listedKey : List ℕ → ℕ → Key
 listedKey listed j = spread (getD listed j 0)
+
+-- the key of the number x that stands at position j
+module _ (listed : List ℕ) (j x k : ℕ) (ex : x ≡ getD listed j 0) where
+  pub same-listed : x ≡ k → listedKey listed j ≡ spread k
+  unfolding listedKey
+  same-listed e = ap spread (sym ex ∙ e)
+
+  pub other-listed : (x ≡ k → ⊥) → listedKey listed j ≡ spread k → ⊥
+  unfolding listedKey
+  other-listed other e = other (ex ∙ spread-one (getD listed j 0) k e)
 
 -- one of n positions from x on has this number
 unfoldable pub isListed : List ℕ → ℕ → ℕ → ℕ → Bool
@@ -119,23 +127,25 @@ put-indexed listed slots after i r before put = record { placed = put .placed; a
         let y = before .all x p (omega arith) in
         record { at = y .at; some = y .some; there = put .kept (y .at) (y .some) (y .there); same = y .same }
 
--- The ways out of `place`: the search for the key of position i has ended at slot r, which has j.
-module _ (listed slots : List ℕ) (i r j : ℕ) (k : Key) (p : 0 < i) (ek : k ≡ listedKey listed i) (before : Indexed listed slots i)
-    (ended : Ended (listedKey listed) slots k i r) (ej : j ≡ getD slots r 0) where
+-- The ways out of `place`: the search for the number x at position i has ended at slot r, which has j.
+module _ (listed slots : List ℕ) (i r j x : ℕ) (p : 0 < i) (ex : x ≡ getD listed i 0) (before : Indexed listed slots i)
+    (ended : Ended (listedKey listed) slots (spread x) i r) (ej : j ≡ getD slots r 0) where
+  own : spread x ≡ listedKey listed i
+  own = sym (same-listed listed i x x ex refl)
+
   pub placed-old : (j ≡ 0 → ⊥) → Indexed listed slots (i + 1)
-  placed-old some = put-indexed listed slots slots i j before (old-put (listedKey listed) slots k i r p ek (before .placed) ended j ej some)
+  placed-old some = put-indexed listed slots slots i j before (old-put (listedKey listed) slots (spread x) i r p own (before .placed) ended j ej some)
 
   pub placed-new : j ≡ 0 → r < length slots → Indexed listed (set slots r i) (i + 1)
   placed-new none within =
-      put-indexed listed slots (set slots r i) i i before (new-put (listedKey listed) slots k i r p ek (before .placed) ended (sym ej ∙ none) within)
+      put-indexed listed slots (set slots r i) i i before (new-put (listedKey listed) slots (spread x) i r p own (before .placed) ended (sym ej ∙ none) within)
 
 -- The way out of `is_listed`: the search for k among the positions up to n has ended at slot r, which has j.
-module _ (listed slots : List ℕ) (n k r j : ℕ) (at : Key) (ek : at ≡ spread k) (indexed : Indexed listed slots (n + 1))
-    (ended : Ended (listedKey listed) slots at (n + 1) r) (ej : j ≡ getD slots r 0) where
+module _ (listed slots : List ℕ) (n k r j : ℕ) (indexed : Indexed listed slots (n + 1)) (ended : Ended (listedKey listed) slots (spread k) (n + 1) r) (ej : j ≡ getD slots r 0) where
   found : (j ≡ 0 → ⊥) → isListed listed n 1 k ≡ true
   unfolding listedKey
   found some =
-      let own : getD listed j 0 ≡ k = spread-one (getD listed j 0) k (rw ej (ended .fits (omega arith) ∙ ek)) in
+      let own : getD listed j 0 ≡ k = spread-one (getD listed j 0) k (rw ej (ended .fits (omega arith))) in
       listed-at listed n 1 k j (omega arith) (omega (arith, ej, indexed .placed .small r)) own
 
   missing : j ≡ 0 → isListed listed n 1 k ≡ true → ⊥
@@ -143,9 +153,9 @@ module _ (listed slots : List ℕ) (n k r j : ℕ) (at : Key) (ek : at ≡ sprea
   missing none h =
       let x = position listed n 1 k h in
       let y = indexed .all (x .at) (omega (arith, x .low)) (omega (arith, x .high)) in
-      let one : listedKey listed (y .at) ≡ at = y .same ∙ ap spread (x .is) ∙ sym ek in
+      let one : listedKey listed (y .at) ≡ spread k = y .same ∙ ap spread (x .is) in
       let stands = indexed .placed .stands (y .at) (y .some) (y .there) in
-      let path : Path slots (stands .slot) at (bucketOf at) = rw one at (stands .path) in
+      let path : Path slots (stands .slot) (spread k) (bucketOf (spread k)) = rw one at (stands .path) in
       ended .none (sym ej ∙ none) (stands .slot) path (omega (arith, stands .entry, y .some)) (rw (stands .entry) one)
 
   pub listed-is : not (eqb j 0) ≡ isListed listed n 1 k

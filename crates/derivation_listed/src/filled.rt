@@ -1,7 +1,7 @@
 // The keys of the members at a depth, listed in their order from position 1 on.
 use derivation_frames::frames;
+use derivation_frames::links;
 use derivation_trees::keys;
-use reader::trees;
 use reader_equality::tables;
 ghost use mathlib.Core.Path.{_≡_};
 ghost use Prim.Native.Nat.{_+_, _-_, _<_, _≤_};
@@ -28,11 +28,11 @@ fn fill_chain(
     let mut l = c;
     let mut n: usize = 0;
     while l != 0 {
-        let item = trees::lower_at(obligation, second, m, l, 1);
-        let x = keys::key_of(obligation, second, m, keys, item);
+        let link = links::link_at(obligation, second, m, l);
+        let x = keys::key_of(obligation, second, m, keys, link.item);
         tables::store(listed, n + 1, x);
         n += 1;
-        l = trees::lower_at(obligation, second, m, l, 3);
+        l = link.next;
     }
     n
 }

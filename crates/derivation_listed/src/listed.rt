@@ -14,32 +14,24 @@ fn spread(k: usize) -> Key
     ensures { λ r. ⌜ r ≡ spread k ⌝ }
 {
     Key {
-        kind: k % 256,
-        atom: k / 256 % 256,
-        first: k / 256 / 256 % 256,
-        second: k / 256 / 256 / 256 % 256,
-        third: k / 256 / 256 / 256 / 256,
+        kind: k % 512,
+        atom: k / 512 % 512,
+        first: k / 512 / 512,
+        second: 0,
+        third: 0,
     }
 }
 
-// The key at position j.
-fn key_at(listed: &[usize], j: usize) -> Key
-    requires { ⌜ j < length (now listed) ⌝ }
-    ensures { λ r. ⌜ r ≡ listedKey (now (listed .entry)) j ⌝ }
-{
-    spread(tables::entry(listed, j))
-}
-
-// The slot at which the search for a key among the positions below i ends: one that has a position with that key, or a free one.
-fn slot_of(listed: &[usize], slots: &[u32], key: Key, i: usize) -> usize
+// The slot at which the search for k among the positions below i ends: one that has a position with k, or a free one.
+fn slot_of(listed: &[usize], slots: &[u32], k: usize, i: usize) -> usize
     requires { ⌜ (i ≤ length (now listed)) × (4096 + 2 * i ≤ length (now slots)) × Placed (listedKey (now listed)) (now slots) i ⌝ }
-    ensures { λ r. ⌜ Ended (listedKey (now (listed .entry))) (now (slots .entry)) key i r ⌝ }
+    ensures { λ r. ⌜ Ended (listedKey (now (listed .entry))) (now (slots .entry)) (spread k) i r ⌝ }
 {
-    let mut slot = reader_equality::keys::bucket_of(key);
-    let mut rest = key;
+    let mut rest = spread(k);
+    let mut slot = reader_equality::keys::bucket_of(rest);
     let mut j = slots::record_in(slots, slot);
     while j != 0 {
-        if reader_equality::keys::same_key(key_at(listed, j), key) {
+        if tables::entry(listed, j) == k {
             return slot;
         }
         slot = slots::slot_under(j, rest);
@@ -54,8 +46,7 @@ fn place(listed: &[usize], slots: &mut [u32], i: usize)
     requires { ⌜ (0 < i) × Space (now listed) (now slots) i × Indexed (now listed) (now slots) i ⌝ }
     ensures { λ _. ⌜ Indexed (now (listed .entry)) (now (slots .exit)) (i + 1) ⌝ }
 {
-    let key = key_at(listed, i);
-    let slot = slot_of(listed, slots, key, i);
+    let slot = slot_of(listed, slots, tables::entry(listed, i), i);
     let j = slots::record_in(slots, slot);
     if j != 0 {
         return;
@@ -80,7 +71,6 @@ pub fn is_listed(listed: &[usize], slots: &[u32], n: usize, k: usize) -> bool
     requires { ⌜ Space (now listed) (now slots) n × Indexed (now listed) (now slots) (n + 1) ⌝ }
     ensures { λ r. ⌜ r ≡ isListed (now (listed .entry)) n 1 k ⌝ }
 {
-    let key = spread(k);
-    let slot = slot_of(listed, slots, key, n + 1);
+    let slot = slot_of(listed, slots, k, n + 1);
     slots::record_in(slots, slot) != 0
 }

@@ -2,22 +2,25 @@
 use Prim.Native.Nat.{ℕ, zero, suc, _+_, _*_, _-_, _/_, _%_, _<_, _≤_}
 use mathlib.Core.Path.{_≡_, refl, sym, _∙_}
 use mathlib.Core.List.{List}
-use mathlib.Core.Bool.{Bool, true, false}
+use mathlib.Core.Bool.{Bool, true, false, not, false≢true}
 use lib.Dec.{eqb, ltb}
 use lib.ListN.{length, getD, set}
 use lib.Seq.{getD-set-same, getD-set-other, ext-getD}
 use native.Mathlib.Omega.{arith}
-use borrow.Author.Tests.{eq-eqb, ne-eqb, eqb-true, eqb-false, ltb-true, ltb-false}
+use borrow.Author.Tests.{eq-eqb, ne-eqb, eqb-true, eqb-false, ltb-true, ltb-false, not-true, not-false}
 use Rattle.reader.specs.Words.{Reader}
-use Rattle.reader.specs.Tests.{both, either, ifEq, ifTrue}
-use Rattle.reader.specs.Kinds.{isSymbol}
-use Rattle.reader.specs.Trees.{Tree, child, atom, ¬ᵗ_}
+use Rattle.reader.specs.Tests.{both, either, ifEq, ifLt, ifTrue}
+use Rattle.reader.specs.Kinds.{isSymbol, roleAt}
+use Rattle.reader.specs.Trees.{Tree, lower, child, atom, ¬ᵗ_}
 use Rattle.reader.specs.Variables.{isConstant, occurs}
-use Rattle.reader.specs.TreeLaws.{below, child-below}
-use Rattle.reader_equality.specs.Keys.{partAt, part-below}
+use Rattle.reader.specs.TreeLaws.{below}
+use Rattle.reader_view.specs.declared.Record.{Record}
+use Rattle.reader_view.specs.Records.{RecordIs, wordIn, word-in}
+use Rattle.reader_equality.specs.Keys.{isPart, partAt, partIn, part-below, part-in}
 use Rattle.derivation_rules.specs.Erase.{bareTree}
 use Rattle.derivation_trees.specs.Erased.{bare-zero, bare-true, bare-all, bare-node}
 use Rattle.derivation_trees.specs.Keys.{negationsOf, bodyOf, bodyTree, negate, decoded, by-body, body-none, body-bottom, body-record}
+use Rattle.derivation_closedness.specs.Parts.{true-first, true-second, true-third, all-first, all-second, all-third}
 use Rattle.derivation_closedness.specs.Reaches.{Unmarked}
 
 -- the mark of a record: 1 where the constant is in it
@@ -49,7 +52,7 @@ unfoldable pub partMarked : Reader → ℕ → ℕ → ℕ → Bool
 partMarked rd c j w = occurs c (bareTree rd (partAt rd false j w))
 
 -- the constant is record j or in a part of it
-unfoldable pub nodeMarked : Reader → ℕ → ℕ → Bool
+unfoldable nodeMarked : Reader → ℕ → ℕ → Bool
 nodeMarked rd c j = either (constantAt rd c j) (either (partMarked rd c j 1) (either (partMarked rd c j 2) (partMarked rd c j 3)))
 
 -- a constant's atom is its record
@@ -72,41 +75,60 @@ constant-is rd c j = go (eqb (rd j 0) 7) refl
         rw own (with-true (eqb j c))
     go false e = with-false (eqb j c)
 
--- A record by its kind.
-module _ (rd : Reader) (c j : ℕ) (p : 0 < j) where
-  occurs-true : rd j 0 ≡ 15 → occurs c (bareTree rd j) ≡ false
-  unfolding occurs isConstant
-  occurs-true h = rw (bare-true rd j p h) refl
+occurs-zero : (rd : Reader) (c : ℕ) → occurs c (bareTree rd 0) ≡ false
+unfolding occurs
+occurs-zero rd c = rw (bare-zero rd) refl
 
-  occurs-node : (rd j 0 ≡ 15 → ⊥) → (rd j 0 ≡ 22 → ⊥) → occurs c (bareTree rd j) ≡ nodeMarked rd c j
+-- A record by its parts, ⊤ and kind 22 too, which have none and their formula.
+module _ (rd : Reader) (c j : ℕ) (p : 0 < j) where
+  no-constant : (k : ℕ) → rd j 0 ≡ k → eqb k 7 ≡ false → constantAt rd c j ≡ false
+  unfolding constantAt both
+  no-constant k h e = rw (h, e) (go (eqb j c))
+    where
+      go : (b : Bool) → elim b as (λ x. Bool) [ true ↦ false | false ↦ false ] ≡ false
+      go true = refl
+      go false = refl
+
+  node-true : rd j 0 ≡ 15 → occurs c (bareTree rd j) ≡ nodeMarked rd c j
+  unfolding occurs isConstant either partMarked nodeMarked
+  node-true h = rw (bare-true rd j p h, no-constant 15 h refl, true-first rd j h, true-second rd j h, true-third rd j h, occurs-zero rd c) refl
+
+  node-all : rd j 0 ≡ 22 → occurs c (bareTree rd j) ≡ nodeMarked rd c j
+  unfolding either partMarked nodeMarked
+  node-all h =
+      rw (bare-all rd j p h, no-constant 22 h refl, all-first rd j h, all-second rd j h, all-third rd j h, occurs-zero rd c)
+      (alone (occurs c (bareTree rd (child rd j 2))))
+    where
+      alone : (b : Bool) → b ≡ elim b as (λ x. Bool) [ true ↦ true | false ↦ false ]
+      alone true = refl
+      alone false = refl
+
+  node-plain : (rd j 0 ≡ 15 → ⊥) → (rd j 0 ≡ 22 → ⊥) → occurs c (bareTree rd j) ≡ nodeMarked rd c j
   unfolding occurs either partMarked nodeMarked
-  occurs-node no-true no-all = rw (bare-node rd j p no-true no-all, ← constant-is rd c j) refl
+  node-plain no-true no-all = rw (bare-node rd j p no-true no-all, ← constant-is rd c j) refl
+
+  occurs-node : occurs c (bareTree rd j) ≡ nodeMarked rd c j
+  occurs-node = go (eqb (rd j 0) 15) refl (eqb (rd j 0) 22) refl
+    where
+      go : (b : Bool) → eqb (rd j 0) 15 ≡ b → (d : Bool) → eqb (rd j 0) 22 ≡ d → occurs c (bareTree rd j) ≡ nodeMarked rd c j
+      go true e d g = node-true (eqb-true (rd j 0) 15 e)
+      go false e true g = node-all (eqb-true (rd j 0) 22 g)
+      go false e false g = node-plain (eqb-false (rd j 0) 15 e) (eqb-false (rd j 0) 22 g)
 
 -- a smaller record has it not
 pub occurs-below : (rd : Reader) (c j : ℕ) → j < c → occurs c (bareTree rd j) ≡ false
-unfolding constantAt partMarked nodeMarked both either occurs
+unfolding constantAt partMarked nodeMarked both either
 occurs-below rd c j = below (λ i. i < c → occurs c (bareTree rd i) ≡ false) step j
   where
     step : (i : ℕ) → ((k : ℕ) → k < i → k < c → occurs c (bareTree rd k) ≡ false) → i < c → occurs c (bareTree rd i) ≡ false
-    step zero ih p = rw (bare-zero rd) refl
-    step (suc i) ih p = by-true (eqb (rd (suc i) 0) 15) refl
+    step zero ih p = occurs-zero rd c
+    step (suc i) ih p = rw (occurs-node rd c (suc i) pos) (simp (ne-eqb (suc i) c (λ z. omega arith), part 1, part 2, part 3))
       where
         pos : 0 < suc i
         pos = omega arith
 
         part : (w : ℕ) → occurs c (bareTree rd (partAt rd false (suc i) w)) ≡ false
         part w = let low = part-below rd false (suc i) w pos in ih (partAt rd false (suc i) w) low (omega arith)
-
-        by-all : (rd (suc i) 0 ≡ 15 → ⊥) → (b : Bool) → eqb (rd (suc i) 0) 22 ≡ b → occurs c (bareTree rd (suc i)) ≡ false
-        by-all no-true true e =
-            let low = child-below rd (suc i) 2 pos in
-            rw (bare-all rd (suc i) pos (eqb-true (rd (suc i) 0) 22 e)) (ih (child rd (suc i) 2) low (omega arith))
-        by-all no-true false e =
-            rw (occurs-node rd c (suc i) pos no-true (eqb-false (rd (suc i) 0) 22 e)) (simp (ne-eqb (suc i) c (λ z. omega arith), part 1, part 2, part 3))
-
-        by-true : (b : Bool) → eqb (rd (suc i) 0) 15 ≡ b → occurs c (bareTree rd (suc i)) ≡ false
-        by-true true e = occurs-true rd c (suc i) pos (eqb-true (rd (suc i) 0) 15 e)
-        by-true false e = by-all (eqb-false (rd (suc i) 0) 15 e) (eqb (rd (suc i) 0) 22) refl
 
 -- The ways out of the code that reads a mark.
 mark-bit : (b : Bool) → eqb (markOf b) 1 ≡ b
@@ -121,16 +143,40 @@ module _ (rd : Reader) (c x : ℕ) where
   pub mark-high : (n : ℕ) (reaches : List ℕ) → c ≤ x → x < n → Marked rd c reaches n → eqb (getD reaches x 0 / 128 % 2) 1 ≡ occurs c (bareTree rd x)
   mark-high n reaches h p marked = rw (marked .holds x h p) (mark-bit (occurs c (bareTree rd x)))
 
-  pub mark-part : (j w : ℕ) (r : Bool) → x ≡ partAt rd false j w → r ≡ occurs c (bareTree rd x) → r ≡ partMarked rd c j w
+-- The ways out of `part_marked`: a part is the word or none.
+part-or : (rd : Reader) (j w : ℕ) (P : ℕ → Type 0) → P 0 → (rd j w < j → P (rd j w)) → P (partAt rd false j w)
+unfolding partAt lower ifTrue ifLt
+part-or rd j w P none some = go (isPart false (roleAt rd j w)) (ltb (rd j w) j) refl
+  where
+    go : (b l : Bool) → ltb (rd j w) j ≡ l → P (elim b as (λ x. ℕ) [ true ↦ elim l as (λ x. ℕ) [ true ↦ rd j w | false ↦ 0 ] | false ↦ 0 ])
+    go true true e = some (ltb-true (rd j w) j e)
+    go true false e = none
+    go false l e = none
+
+module _ (rd : Reader) (c j : ℕ) (x : Record) (e : RecordIs rd j x) (w a : ℕ) (h : w < 4) (ea : a ≡ wordIn x w) where
+  word-at : a ≡ rd j w
+  word-at = ea ∙ word-in rd j x e w h
+
+  pub mark-far : j ≤ a → false ≡ partMarked rd c j w
   unfolding partMarked
-  mark-part j w r e h = rw (← e) h
+  mark-far p = part-or rd j w (λ y. false ≡ occurs c (bareTree rd y)) (sym (occurs-zero rd c)) (λ q. absurd (omega (arith, word-at)))
 
--- a part of record j is a smaller record
-pub part-low : (rd : Reader) (x j w : ℕ) → 0 < j → x ≡ partAt rd false j w → x < j
-part-low rd x j w p e = omega (arith, part-below rd false j w p)
+  module _ (t : Bool) (et : t ≡ occurs c (bareTree rd a)) where
+    pub mark-none : not t ≡ true → false ≡ partMarked rd c j w
+    unfolding partMarked
+    mark-none n = part-or rd j w (λ y. false ≡ occurs c (bareTree rd y)) (sym (occurs-zero rd c)) (λ q. rw (← word-at) (sym (not-true t n) ∙ et))
 
-pub child-low : (rd : Reader) (x j w : ℕ) → (j ≡ 0 → ⊥) → x ≡ child rd j w → x < j
-child-low rd x j w p e = omega (arith, child-below rd j w (omega arith))
+    pub mark-part : not t ≡ false → (y : ℕ) → y ≡ partIn false j x w → eqb y a ≡ partMarked rd c j w
+    unfolding partMarked
+    mark-part n y ey =
+        rw (ey, part-in rd j x e false w h)
+        (part-or rd j w (λ z. eqb z a ≡ occurs c (bareTree rd z)) (ne-eqb 0 a some ∙ sym (occurs-zero rd c)) (λ q. rw (← word-at) (eq-eqb a a refl ∙ found)))
+      where
+        found : true ≡ occurs c (bareTree rd a)
+        found = sym (not-false t n) ∙ et
+
+        some : 0 ≡ a → ⊥
+        some z = false≢true (sym (occurs-zero rd c) ∙ rw z (sym found))
 
 -- The ways out of `is_constant`.
 module _ (rd : Reader) (c j k : ℕ) where
@@ -142,7 +188,7 @@ module _ (rd : Reader) (c j k : ℕ) where
   unfolding constantAt both
   constant-kind h e = simp (constantAt, both, eq-eqb j c h, ← e)
 
--- The ways out of `node_marked`.
+-- The tests of `is_in`.
 pub either-yes : (a b t : Bool) → t ≡ a → t ≡ true → true ≡ either a b
 unfolding either
 either-yes a b t e h = simp (← e, h)
@@ -154,19 +200,13 @@ either-next a b t r e h q = simp (← e, h) q
 pub ruleset eithers = (either-yes, either-next)
 
 -- The ways out of `is_in`.
-module _ (rd : Reader) (c j k : ℕ) (ek : k ≡ rd j 0) (p : j ≡ 0 → ⊥) where
-  pub in-true : k ≡ 15 → false ≡ occurs c (bareTree rd j)
-  in-true h = sym (occurs-true rd c j (omega arith) (sym ek ∙ h))
-
-  pub in-all : k ≡ 22 → (x : ℕ) (r : Bool) → x ≡ child rd j 2 → r ≡ occurs c (bareTree rd x) → r ≡ occurs c (bareTree rd j)
-  in-all h x r ex er = rw (bare-all rd j (omega arith) (sym ek ∙ h), ← ex) er
-
-  pub in-node : (k ≡ 15 → ⊥) → (k ≡ 22 → ⊥) → (r : Bool) → r ≡ nodeMarked rd c j → r ≡ occurs c (bareTree rd j)
-  in-node no-true no-all r e = rw (occurs-node rd c j (omega arith) (λ h. no-true (ek ∙ h)) (λ h. no-all (ek ∙ h))) e
-
 pub in-none : (rd : Reader) (c j : ℕ) → j ≡ 0 → false ≡ occurs c (bareTree rd j)
-unfolding occurs
-in-none rd c j h = rw (h, bare-zero rd) refl
+in-none rd c j h = rw h (sym (occurs-zero rd c))
+
+pub in-node : (rd : Reader) (c j : ℕ) → (j ≡ 0 → ⊥) → (r : Bool) →
+    r ≡ either (constantAt rd c j) (either (partMarked rd c j 1) (either (partMarked rd c j 2) (partMarked rd c j 3))) → r ≡ occurs c (bareTree rd j)
+unfolding nodeMarked
+in-node rd c j p r e = rw (occurs-node rd c j (omega arith)) e
 
 -- The ways out of `marked_entry`.
 module _ (rd : Reader) (c j v : ℕ) (t : Bool) (e : t ≡ occurs c (bareTree rd j)) where

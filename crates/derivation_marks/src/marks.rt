@@ -1,17 +1,18 @@
 // Occurrence: is a constant in a tree? The records from the constant's on are marked first, each once, so that shared records are not visited again. The marks
 // stand in the table of reaches, and are taken off again.
-use reader::trees;
-use reader::words;
-use reader_equality::keys::part_at;
+use reader_equality::keys::part_of;
+use reader_view::Record;
+use reader_view::views;
 ghost use mathlib.Core.Path.{_≡_};
 ghost use Prim.Native.Nat.{_%_, _<_, _≤_};
 ghost use lib.ListN.{length, getD};
 ghost use Rattle.reader.specs.Words.{word};
+ghost use Rattle.reader_view.specs.Records.{RecordIs};
 ghost use Rattle.reader.specs.Variables.{occurs};
 ghost use Rattle.derivation_rules.specs.Erase.{bareTree};
 ghost use Rattle.derivation_trees.specs.Keys.{decoded, Normal};
 ghost use Rattle.derivation_closedness.specs.Reaches.{Unmarked};
-ghost use Rattle.derivation_marks.specs.Marks.{Marked, Changed, withMark, withoutMark, constantAt, partMarked, nodeMarked};
+ghost use Rattle.derivation_marks.specs.Marks.{Marked, Changed, withMark, withoutMark, constantAt, partMarked};
 
 // Is constant c in record x, by the marks of the records below n?
 fn is_marked(
@@ -32,7 +33,7 @@ fn is_marked(
     reaches[x] / 128 % 2 == 1
 }
 
-// Is constant c in part w of record j, whose kind is k?
+// Is constant c in part w of record j, whose words are x? Few words name a marked record: only of those it is asked whether they are parts.
 fn part_marked(
     obligation: &[u8],
     second: &[u8],
@@ -40,14 +41,20 @@ fn part_marked(
     reaches: &[u16],
     c: usize,
     j: usize,
-    k: usize,
+    x: Record,
     w: u8,
 ) -> bool
-    requires { ⌜ (k ≡ word (now obligation) (now second) m j 0) × (0 < j) × (j ≤ length (now reaches)) × Marked (word (now obligation) (now second) m) c (now reaches) j ⌝ }
+    requires { ⌜ RecordIs (word (now obligation) (now second) m) j x × (w < 4) × (j ≤ length (now reaches)) × Marked (word (now obligation) (now second) m) c (now reaches) j ⌝ }
     ensures { λ r. ⌜ r ≡ partMarked (word (now (obligation .entry)) (now (second .entry)) m) c j w ⌝ }
 {
-    let x = part_at(obligation, second, m, false, j, k, w);
-    is_marked(obligation, second, m, reaches, c, j, x)
+    let a = views::word_in(x, w);
+    if j <= a {
+        return false;
+    }
+    if !is_marked(obligation, second, m, reaches, c, j, a) {
+        return false;
+    }
+    part_of(false, j, x, w) == a
 }
 
 // Is record j, whose kind is k, the constant c?
@@ -61,32 +68,7 @@ fn is_constant(obligation: &[u8], second: &[u8], m: usize, c: usize, j: usize, k
     k == 7
 }
 
-// Is record j, whose kind is k, the constant c, or c in a part of it?
-fn node_marked(
-    obligation: &[u8],
-    second: &[u8],
-    m: usize,
-    reaches: &[u16],
-    c: usize,
-    j: usize,
-    k: usize,
-) -> bool
-    requires { ⌜ (k ≡ word (now obligation) (now second) m j 0) × (0 < j) × (j ≤ length (now reaches)) × Marked (word (now obligation) (now second) m) c (now reaches) j ⌝ }
-    ensures { λ r. ⌜ r ≡ nodeMarked (word (now (obligation .entry)) (now (second .entry)) m) c j ⌝ }
-{
-    if is_constant(obligation, second, m, c, j, k) {
-        return true;
-    }
-    if part_marked(obligation, second, m, reaches, c, j, k, 1) {
-        return true;
-    }
-    if part_marked(obligation, second, m, reaches, c, j, k, 2) {
-        return true;
-    }
-    part_marked(obligation, second, m, reaches, c, j, k, 3)
-}
-
-// Is constant c in record j, by the marks of the smaller records?
+// Is constant c in record j, by the marks of the smaller records? It is the record, or in a part of it. ⊤ has no parts and kind 22 none but its formula.
 fn is_in(obligation: &[u8], second: &[u8], m: usize, reaches: &[u16], c: usize, j: usize) -> bool
     requires { ⌜ (j ≤ length (now reaches)) × Marked (word (now obligation) (now second) m) c (now reaches) j ⌝ }
     ensures { λ r. ⌜ r ≡ occurs c (bareTree (word (now (obligation .entry)) (now (second .entry)) m) j) ⌝ }
@@ -94,15 +76,17 @@ fn is_in(obligation: &[u8], second: &[u8], m: usize, reaches: &[u16], c: usize, 
     if j == 0 {
         return false;
     }
-    let k = words::word_at(obligation, second, m, j, 0);
-    if k == 15 {
-        return false;
+    let x = views::record_of(obligation, second, m, j);
+    if is_constant(obligation, second, m, c, j, x.kind) {
+        return true;
     }
-    if k == 22 {
-        let x = trees::child_at(obligation, second, m, j, 2);
-        return is_marked(obligation, second, m, reaches, c, j, x);
+    if part_marked(obligation, second, m, reaches, c, j, x, 1) {
+        return true;
     }
-    node_marked(obligation, second, m, reaches, c, j, k)
+    if part_marked(obligation, second, m, reaches, c, j, x, 2) {
+        return true;
+    }
+    part_marked(obligation, second, m, reaches, c, j, x, 3)
 }
 
 // The entry of record j with its mark.

@@ -1,17 +1,17 @@
 -- Tests on every member of a sequent, by keys, and the ways out of the code that makes them.
-use Prim.Native.Nat.{ℕ, suc, _+_, _*_, _-_, _<_, _≤_}
+use Prim.Native.Nat.{ℕ, suc, _+_, _*_, _-_, _%_, _<_, _≤_}
 use mathlib.Core.Path.{_≡_, refl, sym, ap, _∙_}
 use mathlib.Core.List.{List, [], _∷_, _++_}
 use mathlib.Core.Bool.{Bool, true, false, not}
 use lib.Dec.{eqb}
 use lib.ListN.{length}
 use native.Mathlib.Omega.{arith}
-use borrow.Author.Tests.{ne-eqb, not-true, not-false}
+use borrow.Author.Tests.{eq-eqb, ne-eqb, eqb-true, eqb-false, not-true, not-false}
 use Rattle.reader.specs.Words.{Reader}
 use Rattle.reader.specs.Tests.{both, every, ifEq, ifTrue}
 use Rattle.reader.specs.Trees.{Tree, same}
 use Rattle.reader.specs.Members.{member}
-use Rattle.derivation_trees.specs.Keys.{decoded, Normal, key-same}
+use Rattle.derivation_trees.specs.Keys.{bodyOf, decoded, Normal, key-same}
 use Rattle.derivation_trees.specs.Table.{KeyOf}
 use Rattle.derivation_frames.specs.Frames.{startAt, entryAt, addedBy, addedFrom, chainTrees, membersAt, Framed}
 
@@ -75,6 +75,32 @@ module _ (rd : Reader) (test : Tree → Bool) (e : ℕ) where
       once : (b : Bool) → b ≡ elim b as (λ x. Bool) [ true ↦ true | false ↦ false ]
       once true = refl
       once false = refl
+
+-- The ways out of `entry_agrees`.
+module _ (rd : Reader) (size e key : ℕ) (own : (e ≡ 0 → ⊥) → Normal rd size (e - 1)) (b : Normal rd size key) (wanted : Bool) where
+  pub entry-same : not wanted ≡ false → (e ≡ 0 → ⊥) → eqb (e - 1) key ≡ every (agrees rd key wanted) (addedBy rd e)
+  entry-same w h = added-one rd (agrees rd key wanted) e h (eqb (e - 1) key) (agrees-same rd size (e - 1) key (own h) b wanted (not-false wanted w))
+
+  pub entry-other : not wanted ≡ true → not (eqb e (key + 1)) ≡ every (agrees rd key wanted) (addedBy rd e)
+  entry-other w = go (eqb e 0) refl
+    where
+      less : (e ≡ 0 → ⊥) → (v : Bool) → eqb (e - 1) key ≡ v → eqb e (key + 1) ≡ v
+      less h true t = let one : e - 1 ≡ key = eqb-true (e - 1) key t in eq-eqb e (key + 1) (omega arith)
+      less h false t = let other : e - 1 ≡ key → ⊥ = eqb-false (e - 1) key t in ne-eqb e (key + 1) (λ z. other (omega arith))
+
+      go : (v : Bool) → eqb e 0 ≡ v → not (eqb e (key + 1)) ≡ every (agrees rd key wanted) (addedBy rd e)
+      go true t =
+          let none : e ≡ 0 = eqb-true e 0 t in
+          ap not (ne-eqb e (key + 1) (λ z. omega arith)) ∙ added-none rd (agrees rd key wanted) e none
+      go false t =
+          let some : e ≡ 0 → ⊥ = eqb-false e 0 t in
+          added-one rd (agrees rd key wanted) e some (not (eqb e (key + 1)))
+          (ap not (less some (eqb (e - 1) key) refl) ∙ agrees-other rd size (e - 1) key (own some) b wanted (not-true wanted w))
+
+-- a key of few records is not the last number
+pub key-low : (rd : Reader) (size key : ℕ) → Normal rd size key → size ≤ 250000 → key % 262144 ≤ 250000
+unfolding bodyOf
+key-low rd size key own small = omega (arith, own .inside)
 
 -- The ways out of a loop over the frames above the chain that makes a test on what each adds.
 module _ (rd : Reader) (test : Tree → Bool) (frames : List ℕ) (d s f : ℕ) (inv : every test (addedFrom rd frames (d - s) (suc s)) ≡ every test (addedFrom rd frames (d - f) (suc f))) where

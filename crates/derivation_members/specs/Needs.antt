@@ -17,7 +17,7 @@ use Rattle.derivation_rules.specs.Rules.{State, row}
 use Rattle.derivation_rules.specs.Check.{needsMet, noOther}
 use Rattle.reader.specs.Members.{member}
 use Rattle.derivation_trees.specs.Keys.{decoded, Normal}
-use Rattle.derivation_trees.specs.Table.{Table}
+use Rattle.derivation_trees.specs.Table.{KeyOf, Table}
 use Rattle.derivation_rules.specs.RowLaws.{row-none, by-rule}
 use Rattle.derivation_frames.specs.Frames.{goalAt, chainTrees, Framed}
 use Rattle.derivation_tables.specs.Tables.{column, oneOf, formTree, needs-are}
@@ -119,6 +119,10 @@ only-goals rd n ps st = by (rd n 0) (eqb (rd n 0) 64) refl
 pub held-form : (rd : Reader) (size goal more x : ℕ) (t : Tree) (Γ : List Tree) (r : Bool) → Formed rd size goal more x t → r ≡ member (decoded rd x) Γ → r ≡ held Γ t
 unfolding held
 held-form rd size goal more x t Γ r k e = rw (← k .stands .means) e
+
+pub held-key : (rd : Reader) (size x : ℕ) (t : Tree) (Γ : List Tree) (r : Bool) → KeyOf rd size x t → r ≡ member (decoded rd x) Γ → r ≡ held Γ t
+unfolding held
+held-key rd size x t Γ r k e = rw (← k .stands .means) e
 
 pub form-normal : (rd : Reader) (size goal more x : ℕ) (t : Tree) → Formed rd size goal more x t → Normal rd size x
 form-normal rd size goal more x t k = k .stands .normal

@@ -1,9 +1,9 @@
 // Tests on every member of a sequent: is it one formula, or another, as wanted?
 use derivation_frames::frames;
+use derivation_frames::links;
 use derivation_trees::keys;
-use reader::trees;
 ghost use mathlib.Core.Path.{_≡_};
-ghost use Prim.Native.Nat.{suc, _-_, _<_};
+ghost use Prim.Native.Nat.{suc, _-_, _<_, _≤_};
 ghost use lib.ListN.{length};
 ghost use Rattle.reader.specs.Words.{word};
 ghost use Rattle.reader.specs.Tests.{every};
@@ -47,17 +47,17 @@ fn chain_agrees(
 {
     let mut l = c;
     while l != 0 {
-        let item = trees::lower_at(obligation, second, m, l, 1);
-        let x = keys::key_of(obligation, second, m, keys, item);
+        let link = links::link_at(obligation, second, m, l);
+        let x = keys::key_of(obligation, second, m, keys, link.item);
         if !key_agrees(obligation, second, m, keys, x, key, wanted) {
             return false;
         }
-        l = trees::lower_at(obligation, second, m, l, 3);
+        l = link.next;
     }
     true
 }
 
-// Is what entry e of a frame adds so?
+// Is what entry e of a frame adds so? An entry is a key and one: so one comparison tells that another is wanted and there, or none.
 fn entry_agrees(
     obligation: &[u8],
     second: &[u8],
@@ -67,13 +67,16 @@ fn entry_agrees(
     key: usize,
     wanted: bool,
 ) -> bool
-    requires { ⌜ ((e ≡ 0 → ⊥) → Normal (word (now obligation) (now second) m) (length (now keys)) (e - 1)) × Normal (word (now obligation) (now second) m) (length (now keys)) key ⌝ }
+    requires { ⌜ ((e ≡ 0 → ⊥) → Normal (word (now obligation) (now second) m) (length (now keys)) (e - 1)) × Normal (word (now obligation) (now second) m) (length (now keys)) key × (length (now keys) ≤ 250000) ⌝ }
     ensures { λ r. ⌜ r ≡ every (agrees (word (now (obligation .entry)) (now (second .entry)) m) key wanted) (addedBy (word (now (obligation .entry)) (now (second .entry)) m) e) ⌝ }
 {
+    if !wanted {
+        return e != key + 1;
+    }
     if e == 0 {
         return true;
     }
-    key_agrees(obligation, second, m, keys, e - 1, key, wanted)
+    e - 1 == key
 }
 
 // Is every member so that the frames above depth s, to depth d, add?
@@ -88,7 +91,7 @@ fn added_agrees(
     key: usize,
     wanted: bool,
 ) -> bool
-    requires { ⌜ Framed (word (now obligation) (now second) m) (length (now keys)) (now frames) d × (s ≡ startAt (now frames) d) × Normal (word (now obligation) (now second) m) (length (now keys)) key ⌝ }
+    requires { ⌜ Framed (word (now obligation) (now second) m) (length (now keys)) (now frames) d × (s ≡ startAt (now frames) d) × Normal (word (now obligation) (now second) m) (length (now keys)) key × (length (now keys) ≤ 250000) ⌝ }
     ensures { λ r. ⌜ r ≡ every (agrees (word (now (obligation .entry)) (now (second .entry)) m) key wanted) (addedFrom (word (now (obligation .entry)) (now (second .entry)) m) (now (frames .entry)) (d - s) (suc s)) ⌝ }
 {
     let mut f = s;
@@ -113,7 +116,7 @@ pub fn members_agree(
     key: usize,
     wanted: bool,
 ) -> bool
-    requires { ⌜ Table (word (now obligation) (now second) m) (now keys) × Framed (word (now obligation) (now second) m) (length (now keys)) (now frames) d × Normal (word (now obligation) (now second) m) (length (now keys)) key ⌝ }
+    requires { ⌜ Table (word (now obligation) (now second) m) (now keys) × Framed (word (now obligation) (now second) m) (length (now keys)) (now frames) d × Normal (word (now obligation) (now second) m) (length (now keys)) key × (length (now keys) ≤ 250000) ⌝ }
     ensures { λ r. ⌜ r ≡ every (agrees (word (now (obligation .entry)) (now (second .entry)) m) key wanted) (membersAt (word (now (obligation .entry)) (now (second .entry)) m) (now (frames .entry)) d) ⌝ }
 {
     let s = frames::start_at(frames, d);
@@ -134,7 +137,7 @@ pub fn holds(
     d: usize,
     key: usize,
 ) -> bool
-    requires { ⌜ Table (word (now obligation) (now second) m) (now keys) × Framed (word (now obligation) (now second) m) (length (now keys)) (now frames) d × Normal (word (now obligation) (now second) m) (length (now keys)) key ⌝ }
+    requires { ⌜ Table (word (now obligation) (now second) m) (now keys) × Framed (word (now obligation) (now second) m) (length (now keys)) (now frames) d × Normal (word (now obligation) (now second) m) (length (now keys)) key × (length (now keys) ≤ 250000) ⌝ }
     ensures { λ r. ⌜ r ≡ member (decoded (word (now (obligation .entry)) (now (second .entry)) m) key) (membersAt (word (now (obligation .entry)) (now (second .entry)) m) (now (frames .entry)) d) ⌝ }
 {
     !members_agree(obligation, second, m, keys, frames, d, key, false)

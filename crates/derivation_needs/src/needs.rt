@@ -1,19 +1,19 @@
 // Refusal 14: what must be in the sequent, and for BR1 what must not.
 use derivation_forms::forms;
 use derivation_frames::frames;
+use derivation_frames::links;
 use derivation_listed::filled;
 use derivation_listed::listed;
 use derivation_members::members;
 use derivation_tables::tables;
 use derivation_trees::keys;
-use reader::trees;
-use reader::words;
 ghost use mathlib.Core.Path.{_≡_};
 ghost use Prim.Native.Nat.{_+_, _<_};
 ghost use mathlib.Core.List.{[]};
 ghost use lib.ListN.{length};
 ghost use Rattle.reader.specs.Words.{word};
 ghost use Rattle.reader.specs.Tests.{every};
+ghost use Rattle.reader.specs.Trees.{lower};
 ghost use Rattle.derivation_trees.specs.Keys.{decoded};
 ghost use Rattle.derivation_trees.specs.Table.{Table};
 ghost use Rattle.derivation_frames.specs.Frames.{goalAt, chainTrees, membersAt};
@@ -37,18 +37,19 @@ fn items_listed(
 {
     let mut l = c;
     while l != 0 {
-        let item = trees::lower_at(obligation, second, m, l, 1);
-        let x = keys::key_of(obligation, second, m, keys, item);
+        let link = links::link_at(obligation, second, m, l);
+        let x = keys::key_of(obligation, second, m, keys, link.item);
         if !listed::is_listed(listed, slots, h, x) {
             return false;
         }
-        l = trees::lower_at(obligation, second, m, l, 3);
+        l = link.next;
     }
     true
 }
 
-// Is every item of chain c a member at depth d? The members are listed first, for there may be 2,048 items and as many members.
-fn items_held(
+// Is every item of chain c a member at depth d? The members are listed first, for there may be 2,048 items and as many members. This is called at two
+// places: the compiler puts a function that is called at one place into its caller, and the tables would then be in the stack of every node.
+fn many_held(
     obligation: &[u8],
     second: &[u8],
     m: usize,
@@ -68,7 +69,61 @@ fn items_held(
     items_listed(obligation, second, m, keys, &listed, &slots, h, c)
 }
 
-// Are the members there that node n, of kind k and at depth d, needs? BR2 needs its parts.
+// The same, by looking up each item, which is sooner done for few members; the rest of a long chain by tables.
+fn few_held(
+    obligation: &[u8],
+    second: &[u8],
+    m: usize,
+    keys: &[usize],
+    frames: &[usize],
+    d: usize,
+    n: usize,
+    c: usize,
+) -> bool
+    requires { ⌜ At (word (now obligation) (now second) m) (now keys) (now frames) d n × (c < length (now keys)) ⌝ }
+    ensures { λ r. ⌜ r ≡ every (held (membersAt (word (now (obligation .entry)) (now (second .entry)) m) (now (frames .entry)) d)) (chainTrees (word (now (obligation .entry)) (now (second .entry)) m) c) ⌝ }
+{
+    let mut l = c;
+    let mut left: usize = 16;
+    while l != 0 {
+        if left == 0 {
+            return many_held(obligation, second, m, keys, frames, d, n, l);
+        }
+        let link = links::link_at(obligation, second, m, l);
+        let x = keys::key_of(obligation, second, m, keys, link.item);
+        if !members::holds(obligation, second, m, keys, frames, d, x) {
+            return false;
+        }
+        l = link.next;
+        left -= 1;
+    }
+    true
+}
+
+// The same, by tables where members or frames are many.
+fn items_held(
+    obligation: &[u8],
+    second: &[u8],
+    m: usize,
+    keys: &[usize],
+    frames: &[usize],
+    d: usize,
+    n: usize,
+    c: usize,
+) -> bool
+    requires { ⌜ At (word (now obligation) (now second) m) (now keys) (now frames) d n × (c < length (now keys)) ⌝ }
+    ensures { λ r. ⌜ r ≡ every (held (membersAt (word (now (obligation .entry)) (now (second .entry)) m) (now (frames .entry)) d)) (chainTrees (word (now (obligation .entry)) (now (second .entry)) m) c) ⌝ }
+{
+    if 16 < frames::count_at(frames, d) {
+        return many_held(obligation, second, m, keys, frames, d, n, c);
+    }
+    if 16 < d - frames::start_at(frames, d) {
+        return many_held(obligation, second, m, keys, frames, d, n, c);
+    }
+    few_held(obligation, second, m, keys, frames, d, n, c)
+}
+
+// Are the members there that node n, of kind k, with parts chain c and at depth d, needs? BR2 needs its parts.
 pub fn needs_met(
     obligation: &[u8],
     second: &[u8],
@@ -77,13 +132,13 @@ pub fn needs_met(
     frames: &[usize],
     d: usize,
     n: usize,
+    k: usize,
+    c: usize,
 ) -> bool
-    requires { ⌜ At (word (now obligation) (now second) m) (now keys) (now frames) d n ⌝ }
+    requires { ⌜ At (word (now obligation) (now second) m) (now keys) (now frames) d n × (k ≡ word (now obligation) (now second) m n 0) × (c ≡ lower (word (now obligation) (now second) m) n 1) ⌝ }
     ensures { λ r. ⌜ r ≡ needsHeld (word (now (obligation .entry)) (now (second .entry)) m) (membersAt (word (now (obligation .entry)) (now (second .entry)) m) (now (frames .entry)) d) (decoded (word (now (obligation .entry)) (now (second .entry)) m) (goalAt (now (frames .entry)) d)) n ⌝ }
 {
-    let k = words::word_at(obligation, second, m, n, 0);
     if k == 65 {
-        let c = trees::lower_at(obligation, second, m, n, 1);
         return items_held(obligation, second, m, keys, frames, d, n, c);
     }
     let form = tables::column(k, 3);
@@ -91,7 +146,7 @@ pub fn needs_met(
         return true;
     }
     let goal = frames::goal_at(frames, d);
-    let key = forms::form_key(obligation, second, m, keys, goal, n, form);
+    let key = forms::form_in(obligation, second, m, keys, goal, n, c, form);
     members::holds(obligation, second, m, keys, frames, d, key)
 }
 
@@ -104,11 +159,11 @@ pub fn only_goal(
     frames: &[usize],
     d: usize,
     n: usize,
+    k: usize,
 ) -> bool
-    requires { ⌜ At (word (now obligation) (now second) m) (now keys) (now frames) d n ⌝ }
+    requires { ⌜ At (word (now obligation) (now second) m) (now keys) (now frames) d n × (k ≡ word (now obligation) (now second) m n 0) ⌝ }
     ensures { λ r. ⌜ r ≡ onlyGoals (word (now (obligation .entry)) (now (second .entry)) m) n (membersAt (word (now (obligation .entry)) (now (second .entry)) m) (now (frames .entry)) d) (decoded (word (now (obligation .entry)) (now (second .entry)) m) (goalAt (now (frames .entry)) d)) ⌝ }
 {
-    let k = words::word_at(obligation, second, m, n, 0);
     if k != 64 {
         return true;
     }

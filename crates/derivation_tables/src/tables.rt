@@ -1,6 +1,6 @@
 // What the rules 64 to 80 ask and make, as a table.
 ghost use mathlib.Core.Path.{_≡_};
-ghost use Prim.Native.Nat.{_<_};
+ghost use Prim.Native.Nat.{_+_, _*_, _<_};
 ghost use Rattle.derivation_tables.specs.Tables.{digit, digits, columns, column};
 
 // Thirteen columns a rule: 0 shapes of the parts; 1 shape of the goal; 2 the most members that a premise adds; 3 form needed in the sequent;
@@ -108,4 +108,26 @@ pub fn column(k: usize, w: usize) -> usize
         return digit(front(k), 7 - w);
     }
     digit(back(k), 12 - w)
+}
+
+// The form of the goal of premise b of rule k.
+pub fn goal_of(k: usize, b: usize) -> usize
+    requires { ⌜ b < 2 ⌝ }
+    ensures { λ r. ⌜ r ≡ column k (4 + 2 * b) ⌝ }
+{
+    if b == 0 {
+        return column(k, 4);
+    }
+    column(k, 6)
+}
+
+// The form of the member that it adds, 0 for none.
+pub fn added_by(k: usize, b: usize) -> usize
+    requires { ⌜ b < 2 ⌝ }
+    ensures { λ r. ⌜ r ≡ column k (5 + 2 * b) ⌝ }
+{
+    if b == 0 {
+        return column(k, 5);
+    }
+    column(k, 7)
 }

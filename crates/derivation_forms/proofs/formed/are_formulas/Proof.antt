@@ -21,19 +21,17 @@ are-formulas-spec = tie.close (tie.spec
     Inv-loop μ-loop
     -- loop-holds: 3 args
     (λ c. (search needs, refl))
-    -- lower-at-requires: loop-test; 1 loop; 5 args
+    -- link-at-requires: loop-test; 1 loop; 5 args
     (λ c κs. search needs)
-    -- key-of-requires: lower-at; 1 loop-test; 2 loop; 6 args
+    -- key-of-requires: link-at; 1 loop-test; 2 loop; 6 args
     (λ c κs. (search needs, search item-in))
-    -- has-shape-requires: key-of; 1 lower-at; 2 loop-test; 3 loop; 7 args
+    -- is-formula-requires: key-of; 1 link-at; 2 loop-test; 3 loop; 7 args
     (λ c κs. search key-normal)
-    -- returns: if1; 1 has-shape; 2 key-of; 3 lower-at; 4 loop-test; 5 loop; 9 args
+    -- returns: if1; 1 is-formula; 2 key-of; 3 link-at; 4 loop-test; 5 loop; 9 args
     (λ c. search (chain-stop, key-formula))
-    -- lower-at-requires-2: if1; 1 has-shape; 2 key-of; 3 lower-at; 4 loop-test; 5 loop; 9 args
-    (λ c κs. search needs)
-    -- loop-less: lower-at2; 1 if1; 2 has-shape; 3 key-of; 4 lower-at; 5 loop-test; 6 loop; 10 args
+    -- loop-less: if1; 1 is-formula; 2 key-of; 3 link-at; 4 loop-test; 5 loop; 9 args
     (λ c. search rest-falls)
-    -- loop-again: lower-at2; 1 if1; 2 has-shape; 3 key-of; 4 lower-at; 5 loop-test; 6 loop; 10 args
+    -- loop-again: if1; 1 is-formula; 2 key-of; 3 link-at; 4 loop-test; 5 loop; 9 args
     (λ c. (search rest-in, search (chain-more, key-formula)))
     -- returns-2: loop-test; 1 loop; 5 args
     (λ c. search chain-end))

@@ -6,17 +6,15 @@ use Rattle.derivation_forms.proofs.formed.parts_formed.Tie as tie
 
 pub parts-formed-spec : {M : Type 1} → statement M
 parts-formed-spec = tie.close (tie.spec
-    -- lower-at-requires: 3 args
+    -- parts-of-requires: 3 args
     (λ c κs. search needs)
-    -- parts-of-requires: lower-at; 4 args
-    (λ c κs. search needs)
-    -- are-formulas-requires: if1; 1 parts-of; 2 lower-at; 6 args
+    -- are-formulas-requires: if1; 1 parts-of; 5 args
     (λ c κs. (search needs, search chain-in))
-    -- returns: are-formulas; 1 if1; 2 parts-of; 3 lower-at; 7 args
+    -- returns: are-formulas; 1 if1; 2 parts-of; 6 args
     (λ c. search formed-varying)
-    -- column-requires: if1; 1 parts-of; 2 lower-at; 6 args
+    -- column-requires: if1; 1 parts-of; 5 args
     (λ c κs. search needs)
-    -- have-shapes-requires: column; 1 if1; 2 parts-of; 3 lower-at; 7 args
+    -- have-shapes-requires: column; 1 if1; 2 parts-of; 6 args
     (λ c κs. (search needs, search chain-in))
-    -- returns-2: have-shapes; 1 column; 2 if1; 3 parts-of; 4 lower-at; 8 args
+    -- returns-2: have-shapes; 1 column; 2 if1; 3 parts-of; 7 args
     (λ c. search formed-counted))

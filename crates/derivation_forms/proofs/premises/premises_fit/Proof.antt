@@ -1,14 +1,11 @@
 use borrow.Author.Needs.{needs}
-use native.Mathlib.Omega.{arith}
 use Rattle.derivation_forms.specs.Premises.{premises-of}
 use Rattle.derivation_forms.proofs.premises.premises_fit.Statement.{statement}
 use Rattle.derivation_forms.proofs.premises.premises_fit.Tie as tie
 
 pub premises-fit-spec : {M : Type 1} → statement M
 premises-fit-spec = tie.close (tie.spec
-    -- lower-at-requires: 2 args
+    -- are-nodes-requires: 2 args
     (λ c κs. search needs)
-    -- are-nodes-requires: lower-at; 3 args
-    (λ c κs. search needs)
-    -- returns: are-nodes; 1 lower-at; 4 args
+    -- returns: are-nodes; 3 args
     (λ c. search premises-of))

@@ -22,41 +22,38 @@ fill-chain-spec = tie.close (tie.spec
     Inv-loop μ-loop
     -- loop-holds: 4 args
     (λ c. (refl, search needs, filled-none _ _ _ _, outside-self _ _))
-    -- lower-at-requires: loop-test; 1 loop; 6 args
+    -- link-at-requires: loop-test; 1 loop; 6 args
     (λ c κs. search needs)
-    -- key-of-requires: lower-at; 1 loop-test; 2 loop; 7 args
+    -- key-of-requires: link-at; 1 loop-test; 2 loop; 7 args
     (λ c κs. (search needs, search item-in))
-    -- add-store: store-arg; 1 key-of; 2 lower-at; 3 loop-test; 4 loop; 9 args
+    -- add-store: store-arg; 1 key-of; 2 link-at; 3 loop-test; 4 loop; 9 args
     (λ c. omega (
       arith,
       c .before .before .before .before .before .before .before .before .before .pre .2,
       chain-room _ _ _ _ _ _ (c .before .before .before .before .loop .inv .2)
-          (c .before .before .before .loop-test .taken) _ _ (c .before .before .lower-at .ensures) (c .before .key-of .ensures),
+          (c .before .before .before .loop-test .taken) _ _ (c .before .before .link-at .ensures .item-is) (c .before .key-of .ensures),
     ))
-    -- store-requires: store-arg; 1 key-of; 2 lower-at; 3 loop-test; 4 loop; 9 args
+    -- store-requires: store-arg; 1 key-of; 2 link-at; 3 loop-test; 4 loop; 9 args
     (λ c κs. search needs)
-    -- add-n: 1 listed; 2 store; 3 store-arg; 4 key-of; 5 lower-at; 6 loop-test; 7 loop; 12 args
+    -- add-n: 1 listed; 2 store; 3 store-arg; 4 key-of; 5 link-at; 6 loop-test; 7 loop; 12 args
     (λ c. omega (
       arith,
       c .before .before .before .before .before .before .before .before .before .before .before .before .pre .2,
       chain-room _ _ _ _ _ _
           (c .before .before .before .before .before .before .before .loop .inv .2) (c .before .before .before .before .before .before .loop-test .taken) _ _
-          (c .before .before .before .before .before .lower-at .ensures) (c .before .before .before .before .key-of .ensures),
+          (c .before .before .before .before .before .link-at .ensures .item-is) (c .before .before .before .before .key-of .ensures),
     ))
-    -- lower-at-requires-2: 1 listed; 2 store; 3 store-arg; 4 key-of; 5 lower-at; 6 loop-test; 7 loop; 12 args
-    (λ c κs. search needs)
-    -- loop-less: lower-at2; 2 listed; 3 store; 4 store-arg; 5 key-of; 6 lower-at; 7 loop-test; 8 loop; 13 args
-    (λ c. rest-falls _ _ _ (c .before .before .before .before .before .before .before .loop-test .taken) (c .lower-at2 .ensures))
-    -- loop-again: lower-at2; 2 listed; 3 store; 4 store-arg; 5 key-of; 6 lower-at; 7 loop-test; 8 loop; 13 args
-    (λ c. let p = c .before .before .before .before .before .before .before .before .before .before .before .before .before .pre in let l =
-    c .before .before .before .before .before .before .before .before .loop .inv in (
+    -- loop-less: 1 listed; 2 store; 3 store-arg; 4 key-of; 5 link-at; 6 loop-test; 7 loop; 12 args
+    (λ c. search rest-falls)
+    -- loop-again: 1 listed; 2 store; 3 store-arg; 4 key-of; 5 link-at; 6 loop-test; 7 loop; 12 args
+    (λ c. let p = c .before .before .before .before .before .before .before .before .before .before .before .before .pre in let l =
+    c .before .before .before .before .before .before .before .loop .inv in let k = c .before .before .before .before .before .link-at .ensures in (
       search needs,
-      rest-in _ _ _ _ (c .before .before .before .before .before .before .before .loop-test .taken)
-          (c .lower-at2 .ensures) (l .1),
-      chain-next _ _ _ _ _ _ (l .2) (c .before .before .before .before .before .before .before .loop-test .taken) _ _
-          (c .before .before .before .before .before .before .lower-at .ensures) (c .before .before .before .before .before .key-of .ensures) _ _ (c .lower-at2 .ensures)
-          (c .before .before .before .store .ensures) (p .2) (l .0 ∙ p .3),
-      outside-next _ _ _ _ _ (l .3) (c .before .before .before .store .ensures),
+      search rest-in,
+      chain-next _ _ _ _ _ _ (l .2) (c .before .before .before .before .before .before .loop-test .taken) _ _
+          (k .item-is) (c .before .before .before .before .key-of .ensures) _ _ (k .next-is)
+          (c .before .before .store .ensures) (p .2) (l .0 ∙ p .3),
+      outside-next _ _ _ _ _ (l .3) (c .before .before .store .ensures),
     ))
     -- same-length: loop-test; 1 loop; 6 args
     (λ c. search needs)

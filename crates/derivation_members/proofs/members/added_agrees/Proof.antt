@@ -26,7 +26,7 @@ added-agrees-spec = tie.close (tie.spec
     -- entry-at-requires: loop-test; 1 loop; 6 args
     (λ c κs. search frame-next)
     -- entry-agrees-requires: entry-at; 1 loop-test; 2 loop; 7 args
-    (λ c κs. (λ given. search entry-normal, search needs))
+    (λ c κs. (λ given. search entry-normal, search needs, search needs))
     -- returns: if1; 1 entry-agrees; 2 entry-at; 3 loop-test; 4 loop; 9 args
     (λ c. search frames-stop)
     -- add-f: if1; 1 entry-agrees; 2 entry-at; 3 loop-test; 4 loop; 9 args

@@ -1,16 +1,18 @@
 use borrow.Author.Needs.{needs}
 use native.Mathlib.Omega.{arith}
-use Rattle.derivation_members.specs.Members.{added-none, added-one}
+use Rattle.derivation_members.specs.Members.{added-none, entry-same, entry-other, key-low}
 use Rattle.derivation_members.proofs.members.entry_agrees.Statement.{statement}
 use Rattle.derivation_members.proofs.members.entry_agrees.Tie as tie
 
 pub entry-agrees-spec : {M : Type 1} → statement M
 entry-agrees-spec = tie.close (tie.spec
-    -- returns: if1; 4 args
+    -- add-result: if1; 1 args
+    (λ c. let p = c .before .pre in omega (arith, key-low _ _ _ (p .1) (p .2)))
+    -- returns: if1; 1 args
+    (λ c. search entry-other)
+    -- returns-2: if2; 1 if1; 2 args
     (λ c. search added-none)
-    -- sub-key-agrees: if1; 4 args
+    -- sub-result: if2; 1 if1; 2 args
     (λ c. search needs)
-    -- key-agrees-requires: if1; 4 args
-    (λ c κs. (c .before .before .before .before .pre .0 (c .if1 .left), search needs))
-    -- returns-2: key-agrees; 1 if1; 5 args
-    (λ c. search added-one))
+    -- returns-3: if2; 1 if1; 2 args
+    (λ c. search entry-same))

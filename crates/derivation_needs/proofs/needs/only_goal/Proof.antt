@@ -6,13 +6,11 @@ use Rattle.derivation_needs.proofs.needs.only_goal.Tie as tie
 
 pub only-goal-spec : {M : Type 1} → statement M
 only-goal-spec = tie.close (tie.spec
-    -- word-at-requires: 4 args
-    (λ c κs. search needs)
-    -- returns: if1; 1 word-at; 6 args
+    -- returns: if1; 5 args
     (λ c. search only-none)
-    -- goal-at-requires: if1; 1 word-at; 6 args
+    -- goal-at-requires: if1; 5 args
     (λ c κs. search needs)
-    -- members-agree-requires: goal-at; 1 if1; 2 word-at; 7 args
-    (λ c κs. (search needs, search needs, search goal-normal))
-    -- returns-2: members-agree; 1 goal-at; 2 if1; 3 word-at; 8 args
+    -- members-agree-requires: goal-at; 1 if1; 6 args
+    (λ c κs. (search needs, search needs, search goal-normal, search needs))
+    -- returns-2: members-agree; 1 goal-at; 2 if1; 7 args
     (λ c. search only-one))
