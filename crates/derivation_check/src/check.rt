@@ -11,6 +11,7 @@ ghost use lib.ListN.{length};
 ghost use Rattle.reader.specs.declared.Answer.{Answer};
 ghost use Rattle.reader.specs.Words.{word, recordCount};
 ghost use Rattle.reader.specs.Places.{rootOf};
+ghost use Rattle.reader_equality.specs.Tables.{Zeros};
 ghost use Rattle.derivation_rules.specs.Check.{derivationWalk, derivationAnswer};
 ghost use Rattle.derivation_check.specs.Entering.{Entering, Lent};
 
@@ -21,16 +22,26 @@ fn walk_derivation(
     m: usize,
     keys: &mut [usize],
     reaches: &mut [u16],
-    frames: &mut [usize],
+    known: &mut [usize],
+    frames: &mut [usize; 32776],
 ) -> Answer
-    requires { ⌜ Entering (now obligation) (now derivation) m (now keys) (now reaches) (now frames) ⌝ }
+    requires { ⌜ Entering (now obligation) (now derivation) m (now keys) (now reaches) (now frames) × Zeros (now known) ⌝ }
     ensures { λ r. ⌜ r ≡ derivationWalk (word (now (obligation .entry)) (now (derivation .entry)) m) (rootOf (now (derivation .entry))) ⌝ }
 {
     prepare(obligation, derivation, m, keys, false);
     closed::reach_all(obligation, derivation, m, reaches);
     start::store_start(obligation, derivation, m, keys, frames);
     let root = words::word_of(derivation, 0, 2);
-    walk::walk(obligation, derivation, m, keys, reaches, frames, root)
+    walk::walk(
+        obligation,
+        derivation,
+        m,
+        keys,
+        reaches,
+        known,
+        frames,
+        root,
+    )
 }
 
 // The answer to an obligation and a derivation, by tables that have room for their records. The tables are scratch.
@@ -39,9 +50,10 @@ fn check_within(
     derivation: &[u8],
     keys: &mut [usize],
     reaches: &mut [u16],
-    frames: &mut [usize],
+    known: &mut [usize],
+    frames: &mut [usize; 32776],
 ) -> Answer
-    requires { ⌜ Lent (now derivation) (now keys) (now reaches) (now frames) ⌝ }
+    requires { ⌜ Lent (now derivation) (now keys) (now reaches) (now frames) × Zeros (now known) ⌝ }
     ensures { λ r. ⌜ r ≡ derivationAnswer (now (obligation .entry)) (now (derivation .entry)) ⌝ }
 {
     let r = prepare(obligation, derivation, 0, keys, true);
@@ -56,28 +68,45 @@ fn check_within(
         m,
         &mut keys[..size],
         &mut reaches[..size],
+        known,
         frames,
     )
 }
 
 // The same of a derivation of few records: small tables are cleared sooner.
-fn check_few(obligation: &[u8], derivation: &[u8], frames: &mut [usize]) -> Answer
+fn check_few(obligation: &[u8], derivation: &[u8], frames: &mut [usize; 32776]) -> Answer
     requires { ⌜ (recordCount (now derivation) ≤ 3073) × (length (now frames) ≡ 32776) ⌝ }
     ensures { λ r. ⌜ r ≡ derivationAnswer (now (obligation .entry)) (now (derivation .entry)) ⌝ }
 {
     let mut keys = [0usize; 4096];
     let mut reaches = [0u16; 4096];
-    check_within(obligation, derivation, &mut keys, &mut reaches, frames)
+    let mut known = [0usize; 2048];
+    check_within(
+        obligation,
+        derivation,
+        &mut keys,
+        &mut reaches,
+        &mut known,
+        frames,
+    )
 }
 
 // The same of any derivation.
-fn check_many(obligation: &[u8], derivation: &[u8], frames: &mut [usize]) -> Answer
+fn check_many(obligation: &[u8], derivation: &[u8], frames: &mut [usize; 32776]) -> Answer
     requires { ⌜ length (now frames) ≡ 32776 ⌝ }
     ensures { λ r. ⌜ r ≡ derivationAnswer (now (obligation .entry)) (now (derivation .entry)) ⌝ }
 {
     let mut keys = [0usize; 201024];
     let mut reaches = [0u16; 201024];
-    check_within(obligation, derivation, &mut keys, &mut reaches, frames)
+    let mut known = [0usize; 16384];
+    check_within(
+        obligation,
+        derivation,
+        &mut keys,
+        &mut reaches,
+        &mut known,
+        frames,
+    )
 }
 
 // The answer to an obligation and a derivation, any two byte areas.

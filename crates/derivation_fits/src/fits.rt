@@ -13,6 +13,7 @@ ghost use Rattle.reader.specs.Words.{word};
 ghost use Rattle.reader.specs.Tests.{every};
 ghost use Rattle.derivation_rules.specs.Erase.{bareParts};
 ghost use Rattle.derivation_trees.specs.Keys.{decoded};
+ghost use Rattle.derivation_known.specs.Known.{Known};
 ghost use Rattle.derivation_replacement.specs.Replaced.{Tables};
 ghost use Rattle.derivation_frames.specs.Frames.{chainTrees};
 ghost use Rattle.derivation_forms.specs.Forms.{Given};
@@ -68,19 +69,20 @@ fn forms_replaced(
     m: usize,
     keys: &[usize],
     reaches: &[u16],
+    known: &mut [usize],
     goal: usize,
     n: usize,
     x: usize,
     t: usize,
     j: usize,
 ) -> bool
-    requires { ⌜ Given (word (now obligation) (now second) m) (now keys) goal n × Tables (word (now obligation) (now second) m) (now keys) (now reaches) ⌝ }
-    ensures { λ r. ⌜ r ≡ replacedForms (bareParts (word (now (obligation .entry)) (now (second .entry)) m) n) (decoded (word (now (obligation .entry)) (now (second .entry)) m) goal) x t j ⌝ }
+    requires { ⌜ Given (word (now obligation) (now second) m) (now keys) goal n × Tables (word (now obligation) (now second) m) (now keys) (now reaches) × Known (word (now obligation) (now second) m) (now known) ⌝ }
+    ensures { λ r. ⌜ (r ≡ replacedForms (bareParts (word (now (obligation .entry)) (now (second .entry)) m) n) (decoded (word (now (obligation .entry)) (now (second .entry)) m) goal) x t j) × Known (word (now (obligation .entry)) (now (second .entry)) m) (now (known .exit)) ⌝ }
 {
     let u = forms::form_key(obligation, second, m, keys, goal, n, x);
     let v = forms::form_key(obligation, second, m, keys, goal, n, t);
     let w = forms::form_key(obligation, second, m, keys, goal, n, j);
-    replace::is_replaced(obligation, second, m, keys, reaches, u, v, w)
+    replace::is_replaced(obligation, second, m, keys, reaches, known, u, v, w)
 }
 
 // R9: is B open in index 0 at most, are the other parts closed, is the third B(E) and the goal B(F)?
@@ -90,11 +92,12 @@ fn equality_fits(
     m: usize,
     keys: &[usize],
     reaches: &[u16],
+    known: &mut [usize],
     goal: usize,
     n: usize,
 ) -> bool
-    requires { ⌜ Given (word (now obligation) (now second) m) (now keys) goal n × Tables (word (now obligation) (now second) m) (now keys) (now reaches) ⌝ }
-    ensures { λ r. ⌜ r ≡ equalityFits (bareParts (word (now (obligation .entry)) (now (second .entry)) m) n) (decoded (word (now (obligation .entry)) (now (second .entry)) m) goal) ⌝ }
+    requires { ⌜ Given (word (now obligation) (now second) m) (now keys) goal n × Tables (word (now obligation) (now second) m) (now keys) (now reaches) × Known (word (now obligation) (now second) m) (now known) ⌝ }
+    ensures { λ r. ⌜ (r ≡ equalityFits (bareParts (word (now (obligation .entry)) (now (second .entry)) m) n) (decoded (word (now (obligation .entry)) (now (second .entry)) m) goal)) × Known (word (now (obligation .entry)) (now (second .entry)) m) (now (known .exit)) ⌝ }
 {
     let c = trees::lower_at(obligation, second, m, n, 1);
     let rest = trees::lower_at(obligation, second, m, c, 3);
@@ -105,10 +108,34 @@ fn equality_fits(
     if !are_closed(obligation, second, m, keys, reaches, rest) {
         return false;
     }
-    if !forms_replaced(obligation, second, m, keys, reaches, goal, n, 16, 13, 8) {
+    if !forms_replaced(
+        obligation,
+        second,
+        m,
+        keys,
+        reaches,
+        known,
+        goal,
+        n,
+        16,
+        13,
+        8,
+    ) {
         return false;
     }
-    forms_replaced(obligation, second, m, keys, reaches, goal, n, 4, 14, 8)
+    forms_replaced(
+        obligation,
+        second,
+        m,
+        keys,
+        reaches,
+        known,
+        goal,
+        n,
+        4,
+        14,
+        8,
+    )
 }
 
 // Do the letters of rule k fit at node n: two forms equal, or one another with a third in it?
@@ -118,12 +145,13 @@ fn letters_fit(
     m: usize,
     keys: &[usize],
     reaches: &[u16],
+    known: &mut [usize],
     goal: usize,
     n: usize,
     k: usize,
 ) -> bool
-    requires { ⌜ Given (word (now obligation) (now second) m) (now keys) goal n × Tables (word (now obligation) (now second) m) (now keys) (now reaches) ⌝ }
-    ensures { λ r. ⌜ r ≡ lettersFit k (bareParts (word (now (obligation .entry)) (now (second .entry)) m) n) (decoded (word (now (obligation .entry)) (now (second .entry)) m) goal) ⌝ }
+    requires { ⌜ Given (word (now obligation) (now second) m) (now keys) goal n × Tables (word (now obligation) (now second) m) (now keys) (now reaches) × Known (word (now obligation) (now second) m) (now known) ⌝ }
+    ensures { λ r. ⌜ (r ≡ lettersFit k (bareParts (word (now (obligation .entry)) (now (second .entry)) m) n) (decoded (word (now (obligation .entry)) (now (second .entry)) m) goal)) × Known (word (now (obligation .entry)) (now (second .entry)) m) (now (known .exit)) ⌝ }
 {
     let a = tables::column(k, 8);
     if a != 0 {
@@ -136,7 +164,19 @@ fn letters_fit(
     }
     let t = tables::column(k, 11);
     let j = tables::column(k, 12);
-    forms_replaced(obligation, second, m, keys, reaches, goal, n, x, t, j)
+    forms_replaced(
+        obligation,
+        second,
+        m,
+        keys,
+        reaches,
+        known,
+        goal,
+        n,
+        x,
+        t,
+        j,
+    )
 }
 
 // Do the parts of node n fit, as its rule asks?
@@ -146,11 +186,12 @@ pub fn fits(
     m: usize,
     keys: &[usize],
     reaches: &[u16],
+    known: &mut [usize],
     goal: usize,
     n: usize,
 ) -> bool
-    requires { ⌜ Given (word (now obligation) (now second) m) (now keys) goal n × Tables (word (now obligation) (now second) m) (now keys) (now reaches) ⌝ }
-    ensures { λ r. ⌜ r ≡ nodeFits (word (now (obligation .entry)) (now (second .entry)) m) (decoded (word (now (obligation .entry)) (now (second .entry)) m) goal) n ⌝ }
+    requires { ⌜ Given (word (now obligation) (now second) m) (now keys) goal n × Tables (word (now obligation) (now second) m) (now keys) (now reaches) × Known (word (now obligation) (now second) m) (now known) ⌝ }
+    ensures { λ r. ⌜ (r ≡ nodeFits (word (now (obligation .entry)) (now (second .entry)) m) (decoded (word (now (obligation .entry)) (now (second .entry)) m) goal) n) × Known (word (now (obligation .entry)) (now (second .entry)) m) (now (known .exit)) ⌝ }
 {
     let k = words::word_at(obligation, second, m, n, 0);
     if k < 64 {
@@ -160,11 +201,11 @@ pub fn fits(
         return false;
     }
     if k == 79 {
-        return equality_fits(obligation, second, m, keys, reaches, goal, n);
+        return equality_fits(obligation, second, m, keys, reaches, known, goal, n);
     }
     let c = trees::lower_at(obligation, second, m, n, 1);
     if !are_closed(obligation, second, m, keys, reaches, c) {
         return false;
     }
-    letters_fit(obligation, second, m, keys, reaches, goal, n, k)
+    letters_fit(obligation, second, m, keys, reaches, known, goal, n, k)
 }

@@ -1,13 +1,13 @@
--- "In R7 c is in neither Γ nor the goal", by marks of the records up to the largest that a member or the goal has, and the ways out of the code.
-use Prim.Native.Nat.{ℕ, _+_, _-_, _%_, _<_, _≤_}
+-- "In R7 c is in neither Γ nor the goal", by marks of records, and the ways out of the code.
+use Prim.Native.Nat.{ℕ, _+_, _<_, _≤_}
 use mathlib.Core.Path.{_≡_, refl, sym, ap, _∙_}
 use mathlib.Core.List.{List, [], _∷_}
 use mathlib.Core.Bool.{Bool, true, false, not}
-use lib.Dec.{eqb, ltb}
+use lib.Dec.{eqb}
 use lib.ListN.{getD, length, take}
 use lib.Seq.{length-take-le}
 use native.Mathlib.Omega.{arith}
-use borrow.Author.Tests.{eqb-true, eqb-false, ltb-true, ltb-false}
+use borrow.Author.Tests.{eqb-true, eqb-false}
 use Rattle.reader.specs.Words.{Reader}
 use Rattle.reader.specs.Tests.{both, every, ifEq, ifLt}
 use Rattle.reader.specs.TestLaws.{eq-yes, eq-no}
@@ -17,12 +17,13 @@ use Rattle.derivation_rules.specs.Erase.{bareTree, bareParts}
 use Rattle.derivation_rules.specs.Rules.{State, row}
 use Rattle.reader.specs.Members.{isFresh}
 use Rattle.derivation_rules.specs.Check.{inNeither}
-use Rattle.derivation_trees.specs.Keys.{bodyOf, decoded, Normal, Stands, key-one}
+use Rattle.derivation_trees.specs.Keys.{decoded, Normal, Stands, key-one}
 use Rattle.derivation_trees.specs.Makers.{stands-wider}
 use Rattle.derivation_trees.specs.Table.{Table, KeyOf}
+use Rattle.derivation_known.specs.Known.{has, Known, KeepsLacks}
 use Rattle.derivation_marks.specs.Marks.{Marked}
 use Rattle.derivation_rules.specs.RowLaws.{row-none, by-rule}
-use Rattle.derivation_frames.specs.Frames.{startAt, goalAt, entryAt, membersAt, Framed}
+use Rattle.derivation_frames.specs.Frames.{goalAt, membersAt}
 use Rattle.derivation_tables.specs.Tables.{sourceTree, stepTree, formTree}
 use Rattle.derivation_forms.specs.Forms.{Formed}
 
@@ -81,23 +82,6 @@ node-fresh rd n st = go (rd n 0) (bareParts rd n)
             let h : k ≡ 77 → ⊥ = eqb-false k 77 e in
             sym (eq-no k 77 _ _ (every (inNeither st) (row k ps st .fresh)) h (rw (fresh-other ps st k h) refl))
 
--- the body that an entry adds, 0 for none
-unfoldable pub entryBody : ℕ → ℕ
-entryBody e = ifEq e 0 0 (bodyOf (e - 1))
-
--- no record from `top` on is of a member's or the goal's key
-pub record Topped (frames : List ℕ) (d top : ℕ) : Type 0 where
-  pub chain : entryAt frames (startAt frames d) ≤ top
-  pub goal : bodyOf (goalAt frames d) ≤ top
-  pub added : (f : ℕ) → startAt frames d < f → f ≤ d → entryBody (entryAt frames f) ≤ top
-
--- the same of the frames to depth f, where `top` is a number of records
-pub record Rising (size : ℕ) (frames : List ℕ) (d f top : ℕ) : Type 0 where
-  pub low : top ≤ size
-  pub chain : entryAt frames (startAt frames d) ≤ top
-  pub goal : bodyOf (goalAt frames d) ≤ top
-  pub added : (g : ℕ) → startAt frames d < g → g ≤ f → entryBody (entryAt frames g) ≤ top
-
 -- the records below `top` are marked for c
 pub record Marking (rd : Reader) (keys reaches : List ℕ) (c top : ℕ) : Type 0 where
   pub low : top ≤ length keys
@@ -113,10 +97,7 @@ module _ (rd : Reader) (keys reaches : List ℕ) (c top : ℕ) (marking : Markin
       Normal rd (length (take top keys)) key × (length (take top keys) ≤ length reaches) × Marked rd c reaches (length (take top keys))
   few-marked key normal = rw (← few-keys) (normal, marking .room, marking .marked)
 
--- a key of smaller records
-normal-narrow : (rd : Reader) (size top key : ℕ) → Normal rd size key → bodyOf key ≤ top → Normal rd top key
-normal-narrow rd size top key a h = record { inside = h; least = a .least; plain = a .plain }
-
+-- the key of an item of a chain has smaller records than the chain
 pub item-narrow : (rd : Reader) (keys : List ℕ) (item x top l : ℕ) → Table rd keys → KeyOf rd (length keys) x (bareTree rd item) → item < l → l ≤ top → l < length keys → Normal rd top x
 item-narrow rd keys item x top l table k p q low =
     let own : KeyOf rd (item + 1) (getD keys item 0) (bareTree rd item) = table .keyed .holds item (omega arith) in
@@ -125,77 +106,22 @@ item-narrow rd keys item x top l table k p q low =
     let one : x ≡ getD keys item 0 = key-one rd (length keys) x (getD keys item 0) (k .stands .normal) (wide .normal) (k .stands .means ∙ sym (wide .means)) in
     rw one (near .normal)
 
-pub entry-narrow : (rd : Reader) (size : ℕ) (frames : List ℕ) (d top s f e : ℕ) → Framed rd size frames d → Topped frames d top → s ≡ startAt frames d → s ≤ f → f < d →
-    e ≡ entryAt frames (f + 1) → (e ≡ 0 → ⊥) → Normal rd top (e - 1)
-unfolding entryBody
-entry-narrow rd size frames d top s f e here topped es low less ee given =
-    let inside : entryBody (entryAt frames (f + 1)) ≤ top = topped .added (f + 1) (omega arith) (omega arith) in
-    let body : bodyOf (e - 1) ≡ entryBody e = eq-no e 0 _ _ (bodyOf (e - 1)) given refl in
-    let high : bodyOf (e - 1) ≤ top = rw (body, ee) inside in
-    normal-narrow rd size top (e - 1) (rw ee (here .added (f + 1) (omega arith) (omega arith) (λ z. given (ee ∙ z)))) high
-
-pub goal-narrow : (rd : Reader) (size : ℕ) (frames : List ℕ) (d top goal : ℕ) → Framed rd size frames d → Topped frames d top → goal ≡ goalAt frames d → Normal rd top goal
-goal-narrow rd size frames d top goal here topped e = rw e (normal-narrow rd size top (goalAt frames d) (here .goal) (topped .goal))
-
-pub chain-narrow : (frames : List ℕ) (d top s c : ℕ) → Topped frames d top → s ≡ startAt frames d → c ≡ entryAt frames s → c ≤ top
-chain-narrow frames d top s c topped es ec = rw (ec, es) (topped .chain)
-
--- The ways out of `entry_body` and `larger`.
-pub body-zero : (e : ℕ) → e ≡ 0 → 0 ≡ entryBody e
-unfolding entryBody
-body-zero e h = eq-yes e 0 _ _ 0 h refl
-
-pub body-some : (e : ℕ) → (e ≡ 0 → ⊥) → (e - 1) % 262144 ≡ entryBody e
-unfolding entryBody bodyOf
-body-some e h = eq-no e 0 _ _ ((e - 1) % 262144) h refl
-
--- The loop of `top_of`.
-module _ (rd : Reader) (size : ℕ) (frames : List ℕ) (d : ℕ) (here : Framed rd size frames d) where
-  pub rising-start : (s c goal top : ℕ) → s ≡ startAt frames d → c ≡ entryAt frames s → goal ≡ goalAt frames d →
-      (c ≤ top) × (goal % 262144 ≤ top) × ((x : ℕ) → c ≤ x → goal % 262144 ≤ x → top ≤ x) → Rising size frames d s top
-  unfolding bodyOf
-  rising-start s c goal top es ec eg h = record {
-    low = h .2 size (omega (arith, low)) (rw eg (here .goal .inside));
-    chain = rw (← es, ← ec) (h .0);
-    goal = rw (← eg) (h .1);
-    added = λ g p q. absurd (omega arith);
-  }
-    where
-      low : c < size
-      low = rw (ec, es) (here .chain)
-
-  pub rising-more : (s f e b top next : ℕ) → s ≡ startAt frames d → s ≤ f → f < d → Rising size frames d f top → e ≡ entryAt frames (f + 1) → b ≡ entryBody e →
-      (top ≤ next) × (b ≤ next) × ((x : ℕ) → top ≤ x → b ≤ x → next ≤ x) → Rising size frames d (f + 1) next
-  unfolding entryBody
-  rising-more s f e b top next es low less rising ee eb h = record {
-    low = h .2 size (rising .low) (small (eqb e 0) refl);
-    chain = omega (arith, rising .chain, h .0);
-    goal = omega (arith, rising .goal, h .0);
-    added = λ g p q. go g p q (ltb g (f + 1)) refl;
-  }
-    where
-      small : (z : Bool) → eqb e 0 ≡ z → b ≤ size
-      small true z = let none : b ≡ 0 = eb ∙ sym (body-zero e (eqb-true e 0 z)) in omega arith
-      small false z =
-          let given : e ≡ 0 → ⊥ = eqb-false e 0 z in
-          let own : b ≡ bodyOf (e - 1) = eb ∙ sym (eq-no e 0 _ _ (bodyOf (e - 1)) given refl) in
-          let normal : Normal rd size (e - 1) = rw ee (here .added (f + 1) (omega arith) (omega arith) (λ w. given (ee ∙ w))) in
-          rw own (normal .inside)
-
-      go : (g : ℕ) → startAt frames d < g → g ≤ f + 1 → (z : Bool) → ltb g (f + 1) ≡ z → entryBody (entryAt frames g) ≤ next
-      go g p q true z = let near : g < f + 1 = ltb-true g (f + 1) z in omega (arith, rising .added g p (omega arith), h .0)
-      go g p q false z =
-          let far : f + 1 ≤ g = ltb-false g (f + 1) z in
-          let one : g ≡ f + 1 = omega arith in
-          rw (one, ← ee, ← eb) (h .1)
-
-  pub rising-end : (f top : ℕ) → d ≤ f → Rising size frames d f top → Topped frames d top
-  rising-end f top h rising = record { chain = rising .chain; goal = rising .goal; added = λ g p q. rising .added g p (omega arith) }
-
 -- The ways out of the tests.
 pub lacks-key : (rd : Reader) (c key : ℕ) (r : Bool) → r ≡ occurs c (decoded rd key) → not r ≡ lacks c (decoded rd key)
 unfolding lacks
 lacks-key rd c key r e = ap not e
+
+-- The ways out of `key_lacks`: what lacks c is made known.
+module _ (rd : Reader) (c key : ℕ) (t : Bool) (e : t ≡ occurs c (decoded rd key)) where
+  pub lacks-marked : t ≡ true → false ≡ lacks c (decoded rd key)
+  lacks-marked h = sym (ap not h) ∙ lacks-key rd c key t e
+
+  pub lacks-unmarked : t ≡ false → true ≡ lacks c (decoded rd key)
+  lacks-unmarked h = sym (ap not h) ∙ lacks-key rd c key t e
+
+  pub kept-unmarked : t ≡ false → (before after : List ℕ) → KeepsLacks before after c key → Known rd before → Known rd after
+  unfolding has
+  kept-unmarked h before after keeps known = keeps .keeps rd known (sym e ∙ h)
 
 pub lacks-tree : (rd : Reader) (size c x : ℕ) (t : Tree) (r : Bool) → KeyOf rd size x t → r ≡ lacks c (decoded rd x) → r ≡ lacks c t
 lacks-tree rd size c x t r k e = rw (← k .stands .means) e

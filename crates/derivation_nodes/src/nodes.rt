@@ -3,6 +3,7 @@ use derivation_fits::fits;
 use derivation_forms::formed;
 use derivation_forms::premises;
 use derivation_frames::frames;
+use derivation_frames::links;
 use derivation_fresh::fresh;
 use derivation_needs::needs;
 use derivation_tables::tables;
@@ -13,8 +14,10 @@ ghost use mathlib.Core.Path.{_≡_};
 ghost use Prim.Native.Nat.{_≤_};
 ghost use lib.ListN.{length};
 ghost use Rattle.reader.specs.Words.{word};
+ghost use Rattle.reader.specs.Trees.{lower};
 ghost use Rattle.derivation_bytes.specs.Bytes.{derivationByte};
 ghost use Rattle.derivation_trees.specs.Keys.{decoded};
+ghost use Rattle.derivation_known.specs.Known.{Known};
 ghost use Rattle.derivation_replacement.specs.Replaced.{Tables};
 ghost use Rattle.derivation_rules.specs.Check.{nodeFault};
 ghost use Rattle.derivation_frames.specs.Frames.{goalAt, membersAt, stateOf};
@@ -23,7 +26,7 @@ ghost use Rattle.derivation_fits.specs.Fits.{nodeFits};
 ghost use Rattle.derivation_nodes.specs.Rooms.{nodeRoom};
 ghost use Rattle.derivation_nodes.specs.Nodes.{Ready, membersFit, goalShapedAt, premisesAt, formFault, fitFault};
 
-// Has the goal the form that the rule of node n shows?
+// Has the goal the form that rule k of node n shows?
 fn goal_fits(
     obligation: &[u8],
     second: &[u8],
@@ -32,25 +35,25 @@ fn goal_fits(
     frames: &[usize],
     d: usize,
     n: usize,
+    k: usize,
 ) -> bool
-    requires { ⌜ At (word (now obligation) (now second) m) (now keys) (now frames) d n ⌝ }
+    requires { ⌜ At (word (now obligation) (now second) m) (now keys) (now frames) d n × (k ≡ word (now obligation) (now second) m n 0) ⌝ }
     ensures { λ r. ⌜ r ≡ goalShapedAt (word (now (obligation .entry)) (now (second .entry)) m) (decoded (word (now (obligation .entry)) (now (second .entry)) m) (goalAt (now (frames .entry)) d)) n ⌝ }
 {
-    let k = words::word_at(obligation, second, m, n, 0);
     let goal = frames::goal_at(frames, d);
     formed::goal_formed(obligation, second, m, keys, goal, k)
 }
 
-// Has node n as many premises as its rule, each a rule node? `byte` is that of the rule.
-fn premises_fit(obligation: &[u8], second: &[u8], m: usize, n: usize, byte: u8) -> bool
-    requires { ⌜ byte ≡ derivationByte (word (now obligation) (now second) m n 0) ⌝ }
+// Has node n, whose chain of premises is c, as many premises as its rule, each a rule node? `byte` is that of the rule.
+fn premises_fit(obligation: &[u8], second: &[u8], m: usize, n: usize, c: usize, byte: u8) -> bool
+    requires { ⌜ (byte ≡ derivationByte (word (now obligation) (now second) m n 0)) × (c ≡ lower (word (now obligation) (now second) m) n 2) ⌝ }
     ensures { λ r. ⌜ r ≡ premisesAt (word (now (obligation .entry)) (now (second .entry)) m) n ⌝ }
 {
     let count = reader_bytes::premises_of(byte);
-    premises::premises_fit(obligation, second, m, n, count)
+    premises::premises_fit(obligation, second, m, n, c, count)
 }
 
-// Are the members there that node n needs, and for BR1 no other?
+// Are the members there that node n, of rule k and with parts chain c, needs, and for BR1 no other?
 fn members_fit(
     obligation: &[u8],
     second: &[u8],
@@ -59,14 +62,16 @@ fn members_fit(
     frames: &[usize],
     d: usize,
     n: usize,
+    k: usize,
+    c: usize,
 ) -> bool
-    requires { ⌜ At (word (now obligation) (now second) m) (now keys) (now frames) d n ⌝ }
+    requires { ⌜ At (word (now obligation) (now second) m) (now keys) (now frames) d n × (k ≡ word (now obligation) (now second) m n 0) × (c ≡ lower (word (now obligation) (now second) m) n 1) ⌝ }
     ensures { λ r. ⌜ r ≡ membersFit (word (now (obligation .entry)) (now (second .entry)) m) (membersAt (word (now (obligation .entry)) (now (second .entry)) m) (now (frames .entry)) d) (decoded (word (now (obligation .entry)) (now (second .entry)) m) (goalAt (now (frames .entry)) d)) n ⌝ }
 {
-    if !needs::needs_met(obligation, second, m, keys, frames, d, n) {
+    if !needs::needs_met(obligation, second, m, keys, frames, d, n, k, c) {
         return false;
     }
-    needs::only_goal(obligation, second, m, keys, frames, d, n)
+    needs::only_goal(obligation, second, m, keys, frames, d, n, k)
 }
 
 // Do the parts of node n fit, as its rule asks?
@@ -76,15 +81,16 @@ fn parts_fit(
     m: usize,
     keys: &[usize],
     reaches: &[u16],
+    known: &mut [usize],
     frames: &[usize],
     d: usize,
     n: usize,
 ) -> bool
-    requires { ⌜ At (word (now obligation) (now second) m) (now keys) (now frames) d n × Tables (word (now obligation) (now second) m) (now keys) (now reaches) ⌝ }
-    ensures { λ r. ⌜ r ≡ nodeFits (word (now (obligation .entry)) (now (second .entry)) m) (decoded (word (now (obligation .entry)) (now (second .entry)) m) (goalAt (now (frames .entry)) d)) n ⌝ }
+    requires { ⌜ At (word (now obligation) (now second) m) (now keys) (now frames) d n × Tables (word (now obligation) (now second) m) (now keys) (now reaches) × Known (word (now obligation) (now second) m) (now known) ⌝ }
+    ensures { λ r. ⌜ (r ≡ nodeFits (word (now (obligation .entry)) (now (second .entry)) m) (decoded (word (now (obligation .entry)) (now (second .entry)) m) (goalAt (now (frames .entry)) d)) n) × Known (word (now (obligation .entry)) (now (second .entry)) m) (now (known .exit)) ⌝ }
 {
     let goal = frames::goal_at(frames, d);
-    fits::fits(obligation, second, m, keys, reaches, goal, n)
+    fits::fits(obligation, second, m, keys, reaches, known, goal, n)
 }
 
 // Have the premises of node n room beside h members?
@@ -135,18 +141,18 @@ fn form_fault(
     requires { ⌜ At (word (now obligation) (now second) m) (now keys) (now frames) d n ⌝ }
     ensures { λ r. ⌜ r ≡ formFault (word (now (obligation .entry)) (now (second .entry)) m) (stateOf (word (now (obligation .entry)) (now (second .entry)) m) (now (frames .entry)) d) n ⌝ }
 {
-    let k = words::word_at(obligation, second, m, n, 0);
-    let byte = derivation_bytes::derivation_byte(k);
-    if !formed::parts_formed(obligation, second, m, keys, n, k, byte) {
+    let x = links::node_at(obligation, second, m, n);
+    let byte = derivation_bytes::derivation_byte(x.kind);
+    if !formed::parts_formed(obligation, second, m, keys, n, x.kind, x.parts, byte) {
         return 13;
     }
-    if !goal_fits(obligation, second, m, keys, frames, d, n) {
+    if !goal_fits(obligation, second, m, keys, frames, d, n, x.kind) {
         return 13;
     }
-    if !premises_fit(obligation, second, m, n, byte) {
+    if !premises_fit(obligation, second, m, n, x.premises, byte) {
         return 13;
     }
-    if !members_fit(obligation, second, m, keys, frames, d, n) {
+    if !members_fit(obligation, second, m, keys, frames, d, n, x.kind, x.parts) {
         return 14;
     }
     0
@@ -159,17 +165,18 @@ fn fit_fault(
     m: usize,
     keys: &[usize],
     reaches: &mut [u16],
+    known: &mut [usize],
     frames: &[usize],
     d: usize,
     n: usize,
 ) -> usize
-    requires { ⌜ At (word (now obligation) (now second) m) (now keys) (now frames) d n × Ready (word (now obligation) (now second) m) (now keys) (now reaches) ⌝ }
-    ensures { λ r. ⌜ (r ≡ fitFault (word (now (obligation .entry)) (now (second .entry)) m) (stateOf (word (now (obligation .entry)) (now (second .entry)) m) (now (frames .entry)) d) n) × (now (reaches .exit) ≡ now (reaches .entry)) ⌝ }
+    requires { ⌜ At (word (now obligation) (now second) m) (now keys) (now frames) d n × Ready (word (now obligation) (now second) m) (now keys) (now reaches) × Known (word (now obligation) (now second) m) (now known) ⌝ }
+    ensures { λ r. ⌜ (r ≡ fitFault (word (now (obligation .entry)) (now (second .entry)) m) (stateOf (word (now (obligation .entry)) (now (second .entry)) m) (now (frames .entry)) d) n) × (now (reaches .exit) ≡ now (reaches .entry)) × Known (word (now (obligation .entry)) (now (second .entry)) m) (now (known .exit)) ⌝ }
 {
-    if !parts_fit(obligation, second, m, keys, reaches, frames, d, n) {
+    if !parts_fit(obligation, second, m, keys, reaches, known, frames, d, n) {
         return 15;
     }
-    if !fresh::constant_fresh(obligation, second, m, keys, frames, reaches, d, n) {
+    if !fresh::constant_fresh(obligation, second, m, keys, frames, reaches, known, d, n) {
         return 16;
     }
     if !has_room(obligation, second, m, keys, frames, d, n) {
@@ -188,16 +195,17 @@ pub fn node_fault(
     m: usize,
     keys: &[usize],
     reaches: &mut [u16],
+    known: &mut [usize],
     frames: &[usize],
     d: usize,
     n: usize,
 ) -> usize
-    requires { ⌜ At (word (now obligation) (now second) m) (now keys) (now frames) d n × Ready (word (now obligation) (now second) m) (now keys) (now reaches) ⌝ }
-    ensures { λ r. ⌜ (r ≡ nodeFault (word (now (obligation .entry)) (now (second .entry)) m) (stateOf (word (now (obligation .entry)) (now (second .entry)) m) (now (frames .entry)) d) n) × (now (reaches .exit) ≡ now (reaches .entry)) ⌝ }
+    requires { ⌜ At (word (now obligation) (now second) m) (now keys) (now frames) d n × Ready (word (now obligation) (now second) m) (now keys) (now reaches) × Known (word (now obligation) (now second) m) (now known) ⌝ }
+    ensures { λ r. ⌜ (r ≡ nodeFault (word (now (obligation .entry)) (now (second .entry)) m) (stateOf (word (now (obligation .entry)) (now (second .entry)) m) (now (frames .entry)) d) n) × (now (reaches .exit) ≡ now (reaches .entry)) × Known (word (now (obligation .entry)) (now (second .entry)) m) (now (known .exit)) ⌝ }
 {
     let why = form_fault(obligation, second, m, keys, frames, d, n);
     if why != 0 {
         return why;
     }
-    fit_fault(obligation, second, m, keys, reaches, frames, d, n)
+    fit_fault(obligation, second, m, keys, reaches, known, frames, d, n)
 }

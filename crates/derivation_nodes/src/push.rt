@@ -1,13 +1,14 @@
 // What a node hands to its premises: the frame of the next depth.
 use derivation_forms::forms;
 use derivation_frames::frames;
+use derivation_frames::links;
 use derivation_tables::tables;
 use reader::trees;
-use reader::words;
 ghost use mathlib.Core.Path.{_≡_};
 ghost use Prim.Native.Nat.{_<_};
 ghost use lib.ListN.{length};
 ghost use Rattle.reader.specs.Words.{word};
+ghost use Rattle.reader.specs.Trees.{lower};
 ghost use Rattle.reader.specs.Chains.{linked};
 ghost use Rattle.derivation_frames.specs.Frames.{stateOf};
 ghost use Rattle.derivation_members.specs.Needs.{At};
@@ -26,7 +27,7 @@ pub fn chain_length(obligation: &[u8], second: &[u8], m: usize, c: usize) -> usi
     count
 }
 
-// BR2: the parts of node n are the members of its premise.
+// BR2: the parts of node n, whose chain is c, are the members of its premise.
 fn push_parts(
     obligation: &[u8],
     second: &[u8],
@@ -35,13 +36,13 @@ fn push_parts(
     frames: &mut [usize],
     d: usize,
     n: usize,
+    c: usize,
     b: usize,
 )
-    requires { ⌜ At (word (now obligation) (now second) m) (now keys) (now frames) d n × Passed (word (now obligation) (now second) m) (stateOf (word (now obligation) (now second) m) (now frames) d) n × (b < premiseCount (word (now obligation) (now second) m) (stateOf (word (now obligation) (now second) m) (now frames) d) n) × (word (now obligation) (now second) m n 0 ≡ 65) ⌝ }
+    requires { ⌜ At (word (now obligation) (now second) m) (now keys) (now frames) d n × Passed (word (now obligation) (now second) m) (stateOf (word (now obligation) (now second) m) (now frames) d) n × (b < premiseCount (word (now obligation) (now second) m) (stateOf (word (now obligation) (now second) m) (now frames) d) n) × (word (now obligation) (now second) m n 0 ≡ 65) × (c ≡ lower (word (now obligation) (now second) m) n 1) ⌝ }
     ensures { λ _. ⌜ Premised (word (now (obligation .entry)) (now (second .entry)) m) (length (now (keys .entry))) d n b (now (frames .entry)) (now (frames .exit)) ⌝ }
 {
     let goal = frames::goal_at(frames, d);
-    let c = trees::lower_at(obligation, second, m, n, 1);
     let count = chain_length(obligation, second, m, c);
     frames::write(frames, d + 1, d + 1, goal, c, count);
 }
@@ -60,21 +61,21 @@ pub fn push_premise(
     requires { ⌜ At (word (now obligation) (now second) m) (now keys) (now frames) d n × Passed (word (now obligation) (now second) m) (stateOf (word (now obligation) (now second) m) (now frames) d) n × (b < premiseCount (word (now obligation) (now second) m) (stateOf (word (now obligation) (now second) m) (now frames) d) n) ⌝ }
     ensures { λ _. ⌜ Premised (word (now (obligation .entry)) (now (second .entry)) m) (length (now (keys .entry))) d n b (now (frames .entry)) (now (frames .exit)) ⌝ }
 {
-    let k = words::word_at(obligation, second, m, n, 0);
-    if k == 65 {
-        push_parts(obligation, second, m, keys, frames, d, n, b);
+    let x = links::node_at(obligation, second, m, n);
+    if x.kind == 65 {
+        push_parts(obligation, second, m, keys, frames, d, n, x.parts, b);
         return;
     }
     let goal = frames::goal_at(frames, d);
     let start = frames::start_at(frames, d);
     let count = frames::count_at(frames, d);
-    let g = tables::column(k, 4 + 2 * b);
-    let e = tables::column(k, 5 + 2 * b);
-    let key = forms::form_key(obligation, second, m, keys, goal, n, g);
+    let g = tables::goal_of(x.kind, b);
+    let e = tables::added_by(x.kind, b);
+    let key = forms::form_in(obligation, second, m, keys, goal, n, x.parts, g);
     if e == 0 {
         frames::write(frames, d + 1, start, key, 0, count);
         return;
     }
-    let x = forms::form_key(obligation, second, m, keys, goal, n, e);
-    frames::write(frames, d + 1, start, key, x + 1, count + 1);
+    let added = forms::form_in(obligation, second, m, keys, goal, n, x.parts, e);
+    frames::write(frames, d + 1, start, key, added + 1, count + 1);
 }

@@ -1,4 +1,5 @@
--- How deep the comparison of a tree recurses: no deeper than the tree's order, which a tree of n nodes has at most as large as n + 1 has bits.
+-- How deep the comparison of a tree recurses, besides a call for each 64 nodes on the way, which a tree of n nodes has n / 64 of at most: no deeper than the
+-- tree's order, which a tree of n nodes has at most as large as n + 1 has bits.
 use Prim.Native.Nat.{ℕ, zero, suc, _+_, _*_, _<_, _≤_}
 use mathlib.Core.Path.{_≡_, refl, sym, ap, _∙_}
 use mathlib.Core.Bool.{Bool, true, false, false≢true}

@@ -1,3 +1,4 @@
 pub mod Depth
 pub mod Last
 pub mod Replaced
+pub mod Settled

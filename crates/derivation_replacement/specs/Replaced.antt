@@ -18,6 +18,7 @@ use Rattle.derivation_trees.specs.Makers.{stands-none}
 use Rattle.derivation_trees.specs.Table.{Table}
 use Rattle.derivation_trees.specs.Parts.{Part, partOf, as-none}
 use Rattle.derivation_closedness.specs.Reaches.{Reached}
+use Rattle.derivation_known.specs.Known.{fits}
 
 -- the tables that the test reads
 pub record Tables (rd : Reader) (keys reaches : List ℕ) : Type 0 where
@@ -25,10 +26,7 @@ pub record Tables (rd : Reader) (keys reaches : List ℕ) : Type 0 where
   pub room : length keys ≤ length reaches
   pub reached : Reached rd reaches (length reaches)
 
--- the tree of key x is the tree of key j with the tree of key t in place of index d; and so for part w of each, where the index stands deeper below a binder
-unfoldable pub fits : Reader → ℕ → ℕ → ℕ → ℕ → Bool
-fits rd x t j d = same (decoded rd x) (replaced d (decoded rd t) (decoded rd j))
-
+-- `fits` for part w of each tree, where the index stands deeper below a binder
 unfoldable pub partDepth : Reader → ℕ → ℕ → ℕ → ℕ
 partDepth rd j d w = ifEq w 2 (d + binders (kindOf (decoded rd j))) d
 

@@ -1,16 +1,21 @@
-// Replacement: is a tree what another one is with index 0 replaced? All by keys; what has no index to replace is compared at once. Of a tree's parts the one
-// with the largest order is compared last, by the loop, so that the recursion is no deeper than 15.
+// Replacement: is a tree what another one is with index 0 replaced? All by keys; what has no index to replace is compared at once, and what was found before
+// is known. Of a tree's parts the one with the largest order is compared last, by the loop, so that the recursion is no deeper than 15, and a call more for each
+// 64 nodes that the loop takes.
 use derivation_closedness::closed;
+use derivation_known::facts;
 use derivation_trees::parts;
 ghost use mathlib.Core.Path.{_≡_};
 ghost use Prim.Native.Nat.{_+_, _<_, _≤_};
+ghost use lib.Dec.{eqb};
 ghost use lib.ListN.{length};
 ghost use Rattle.reader.specs.Words.{word};
 ghost use Rattle.reader.specs.Trees.{same};
 ghost use Rattle.reader.specs.Variables.{replaced};
 ghost use Rattle.derivation_trees.specs.Keys.{rank, decoded, Normal};
+ghost use Rattle.derivation_known.specs.Known.{fits, Known};
+ghost use Rattle.derivation_replacement.specs.Settled.{Asking, Open, Settled};
 ghost use Rattle.derivation_replacement.specs.Last.{largest, orderIn, lastPart};
-ghost use Rattle.derivation_replacement.specs.Replaced.{Tables, fits, fitsPart, firstOther, secondOther, othersFit, indexKey, sameHeads, headsFit, partDepth};
+ghost use Rattle.derivation_replacement.specs.Replaced.{Tables, fitsPart, firstOther, secondOther, othersFit, indexKey, sameHeads, headsFit, partDepth};
 
 // Is the tree of key j the bound variable with index d?
 fn is_index(obligation: &[u8], second: &[u8], m: usize, keys: &[usize], j: usize, d: usize) -> bool
@@ -126,19 +131,20 @@ fn fits_part(
     m: usize,
     keys: &[usize],
     reaches: &[u16],
+    known: &mut [usize],
     x: usize,
     t: usize,
     j: usize,
     d: usize,
     w: u8,
 ) -> bool
-    requires { ⌜ Tables (word (now obligation) (now second) m) (now keys) (now reaches) × Normal (word (now obligation) (now second) m) (length (now keys)) x × Normal (word (now obligation) (now second) m) (length (now keys)) t × Normal (word (now obligation) (now second) m) (length (now keys)) j × (0 < j) × (d + rank j < 18446744073709551616) × (0 < w) × (w < 4) ⌝ }
-    ensures { λ r. ⌜ r ≡ fitsPart (word (now (obligation .entry)) (now (second .entry)) m) x t j d w ⌝ }
+    requires { ⌜ Asking (word (now obligation) (now second) m) (now keys) (now reaches) (now known) x t j d × (0 < j) × (0 < w) × (w < 4) ⌝ }
+    ensures { λ r. ⌜ (r ≡ fitsPart (word (now (obligation .entry)) (now (second .entry)) m) x t j d w) × Known (word (now (obligation .entry)) (now (second .entry)) m) (now (known .exit)) ⌝ }
 {
     let e = part_depth(obligation, second, m, keys, j, d, w);
     let y = parts::part_of(obligation, second, m, keys, x, w);
     let z = parts::part_of(obligation, second, m, keys, j, w);
-    fits_at(obligation, second, m, keys, reaches, y, t, z, e)
+    fits_at(obligation, second, m, keys, reaches, known, y, t, z, e)
 }
 
 // The first part other than w.
@@ -162,57 +168,125 @@ fn others_fit(
     m: usize,
     keys: &[usize],
     reaches: &[u16],
+    known: &mut [usize],
     x: usize,
     t: usize,
     j: usize,
     d: usize,
     w: u8,
 ) -> bool
-    requires { ⌜ Tables (word (now obligation) (now second) m) (now keys) (now reaches) × Normal (word (now obligation) (now second) m) (length (now keys)) x × Normal (word (now obligation) (now second) m) (length (now keys)) t × Normal (word (now obligation) (now second) m) (length (now keys)) j × (0 < j) × (d + rank j < 18446744073709551616) ⌝ }
-    ensures { λ r. ⌜ r ≡ othersFit (word (now (obligation .entry)) (now (second .entry)) m) x t j d w ⌝ }
+    requires { ⌜ Asking (word (now obligation) (now second) m) (now keys) (now reaches) (now known) x t j d × (0 < j) ⌝ }
+    ensures { λ r. ⌜ (r ≡ othersFit (word (now (obligation .entry)) (now (second .entry)) m) x t j d w) × Known (word (now (obligation .entry)) (now (second .entry)) m) (now (known .exit)) ⌝ }
 {
     let u = first_other(w);
     let v = second_other(w);
-    if !fits_part(obligation, second, m, keys, reaches, x, t, j, d, u) {
+    if !fits_part(obligation, second, m, keys, reaches, known, x, t, j, d, u) {
         return false;
     }
-    fits_part(obligation, second, m, keys, reaches, x, t, j, d, v)
+    fits_part(obligation, second, m, keys, reaches, known, x, t, j, d, v)
 }
 
-// Is the tree of key x that of key j with that of key t in place of index d?
+// 1 for yes and 0 for no.
+fn answer_of(yes: bool) -> u8
+    ensures { λ r. ⌜ (eqb r 1 ≡ yes) × (r < 2) ⌝ }
+{
+    if yes { 1 } else { 0 }
+}
+
+// What is plain: 1 that the tree of key x is that of key j with that of key t in place of index d, 0 that it is not, 2 that their parts have to be compared.
+fn settled(
+    obligation: &[u8],
+    second: &[u8],
+    m: usize,
+    keys: &[usize],
+    reaches: &[u16],
+    known: &[usize],
+    x: usize,
+    t: usize,
+    j: usize,
+    d: usize,
+) -> u8
+    requires { ⌜ Asking (word (now obligation) (now second) m) (now keys) (now reaches) (now known) x t j d ⌝ }
+    ensures { λ r. ⌜ Settled (word (now (obligation .entry)) (now (second .entry)) m) x t j d r ⌝ }
+{
+    if closed::is_below(obligation, second, m, keys, reaches, j, d) {
+        return answer_of(x == j);
+    }
+    if is_index(obligation, second, m, keys, j, d) {
+        return answer_of(x == t);
+    }
+    if facts::fits_known(known, x, t, j, d) {
+        1
+    } else {
+        2
+    }
+}
+
+// Is it, where that is not plain? The loop takes 64 nodes, and a call the rest, so that a later question comes to what is known within as many.
+fn fits_below(
+    obligation: &[u8],
+    second: &[u8],
+    m: usize,
+    keys: &[usize],
+    reaches: &[u16],
+    known: &mut [usize],
+    x: usize,
+    t: usize,
+    j: usize,
+    d: usize,
+) -> bool
+    requires { ⌜ Asking (word (now obligation) (now second) m) (now keys) (now reaches) (now known) x t j d × Open (word (now obligation) (now second) m) j d ⌝ }
+    ensures { λ r. ⌜ (r ≡ fits (word (now (obligation .entry)) (now (second .entry)) m) x t j d) × Known (word (now (obligation .entry)) (now (second .entry)) m) (now (known .exit)) ⌝ }
+{
+    let mut y = x;
+    let mut z = j;
+    let mut e = d;
+    let mut left: usize = 64;
+    while left != 0 {
+        if !heads_fit(obligation, second, m, keys, y, z) {
+            return false;
+        }
+        let w = last_part(obligation, second, m, keys, reaches, z);
+        if !others_fit(obligation, second, m, keys, reaches, known, y, t, z, e, w) {
+            return false;
+        }
+        e = part_depth(obligation, second, m, keys, z, e, w);
+        y = parts::part_of(obligation, second, m, keys, y, w);
+        z = parts::part_of(obligation, second, m, keys, z, w);
+        let s = settled(obligation, second, m, keys, reaches, known, y, t, z, e);
+        if s != 2 {
+            return s == 1;
+        }
+        left -= 1;
+    }
+    fits_at(obligation, second, m, keys, reaches, known, y, t, z, e)
+}
+
+// Is the tree of key x that of key j with that of key t in place of index d? What was found by parts is kept.
 fn fits_at(
     obligation: &[u8],
     second: &[u8],
     m: usize,
     keys: &[usize],
     reaches: &[u16],
+    known: &mut [usize],
     x: usize,
     t: usize,
     j: usize,
     d: usize,
 ) -> bool
-    requires { ⌜ Tables (word (now obligation) (now second) m) (now keys) (now reaches) × Normal (word (now obligation) (now second) m) (length (now keys)) x × Normal (word (now obligation) (now second) m) (length (now keys)) t × Normal (word (now obligation) (now second) m) (length (now keys)) j × (d + rank j < 18446744073709551616) ⌝ }
-    ensures { λ r. ⌜ r ≡ fits (word (now (obligation .entry)) (now (second .entry)) m) x t j d ⌝ }
+    requires { ⌜ Asking (word (now obligation) (now second) m) (now keys) (now reaches) (now known) x t j d ⌝ }
+    ensures { λ r. ⌜ (r ≡ fits (word (now (obligation .entry)) (now (second .entry)) m) x t j d) × Known (word (now (obligation .entry)) (now (second .entry)) m) (now (known .exit)) ⌝ }
 {
-    let mut y = x;
-    let mut z = j;
-    let mut e = d;
-    while !closed::is_below(obligation, second, m, keys, reaches, z, e) {
-        if is_index(obligation, second, m, keys, z, e) {
-            return y == t;
-        }
-        if !heads_fit(obligation, second, m, keys, y, z) {
-            return false;
-        }
-        let w = last_part(obligation, second, m, keys, reaches, z);
-        if !others_fit(obligation, second, m, keys, reaches, y, t, z, e, w) {
-            return false;
-        }
-        e = part_depth(obligation, second, m, keys, z, e, w);
-        y = parts::part_of(obligation, second, m, keys, y, w);
-        z = parts::part_of(obligation, second, m, keys, z, w);
+    let s = settled(obligation, second, m, keys, reaches, known, x, t, j, d);
+    if s != 2 {
+        return s == 1;
     }
-    y == z
+    if !fits_below(obligation, second, m, keys, reaches, known, x, t, j, d) {
+        return false;
+    }
+    facts::keep_fits(known, x, t, j, d);
+    true
 }
 
 // "B(t) is B with index 0 replaced": is the tree of key x that of key j with that of key t in place of index 0?
@@ -222,12 +296,13 @@ pub fn is_replaced(
     m: usize,
     keys: &[usize],
     reaches: &[u16],
+    known: &mut [usize],
     x: usize,
     t: usize,
     j: usize,
 ) -> bool
-    requires { ⌜ Tables (word (now obligation) (now second) m) (now keys) (now reaches) × Normal (word (now obligation) (now second) m) (length (now keys)) x × Normal (word (now obligation) (now second) m) (length (now keys)) t × Normal (word (now obligation) (now second) m) (length (now keys)) j ⌝ }
-    ensures { λ r. ⌜ r ≡ same (decoded (word (now (obligation .entry)) (now (second .entry)) m) x) (replaced 0 (decoded (word (now (obligation .entry)) (now (second .entry)) m) t) (decoded (word (now (obligation .entry)) (now (second .entry)) m) j)) ⌝ }
+    requires { ⌜ Tables (word (now obligation) (now second) m) (now keys) (now reaches) × Known (word (now obligation) (now second) m) (now known) × Normal (word (now obligation) (now second) m) (length (now keys)) x × Normal (word (now obligation) (now second) m) (length (now keys)) t × Normal (word (now obligation) (now second) m) (length (now keys)) j ⌝ }
+    ensures { λ r. ⌜ (r ≡ same (decoded (word (now (obligation .entry)) (now (second .entry)) m) x) (replaced 0 (decoded (word (now (obligation .entry)) (now (second .entry)) m) t) (decoded (word (now (obligation .entry)) (now (second .entry)) m) j))) × Known (word (now (obligation .entry)) (now (second .entry)) m) (now (known .exit)) ⌝ }
 {
-    fits_at(obligation, second, m, keys, reaches, x, t, j, 0)
+    fits_at(obligation, second, m, keys, reaches, known, x, t, j, 0)
 }

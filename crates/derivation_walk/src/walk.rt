@@ -9,6 +9,7 @@ ghost use Rattle.reader.specs.Words.{word};
 ghost use Rattle.reader.specs.Trees.{lower};
 ghost use Rattle.derivation_rules.specs.Check.{nodeFault};
 ghost use Rattle.derivation_frames.specs.Frames.{stateOf, Kept};
+ghost use Rattle.derivation_known.specs.Known.{Known};
 ghost use Rattle.derivation_members.specs.Needs.{At};
 ghost use Rattle.derivation_nodes.specs.Nodes.{Ready};
 ghost use Rattle.derivation_walk.specs.Walked.{visit, follow};
@@ -21,14 +22,15 @@ fn enter(
     m: usize,
     keys: &[usize],
     reaches: &mut [u16],
-    frames: &mut [usize],
+    known: &mut [usize],
+    frames: &mut [usize; 32776],
     d: usize,
     n: usize,
 ) -> usize
-    requires { ⌜ At (word (now obligation) (now second) m) (now keys) (now frames) d n × Ready (word (now obligation) (now second) m) (now keys) (now reaches) ⌝ }
-    ensures { λ r. ⌜ (r ≡ nodeFault (word (now (obligation .entry)) (now (second .entry)) m) (stateOf (word (now (obligation .entry)) (now (second .entry)) m) (now (frames .entry)) d) n) × Opened (word (now (obligation .entry)) (now (second .entry)) m) (length (now (keys .entry))) (now (frames .entry)) d n r (now (frames .exit)) × (now (reaches .exit) ≡ now (reaches .entry)) ⌝ }
+    requires { ⌜ At (word (now obligation) (now second) m) (now keys) (now frames) d n × Ready (word (now obligation) (now second) m) (now keys) (now reaches) × Known (word (now obligation) (now second) m) (now known) ⌝ }
+    ensures { λ r. ⌜ (r ≡ nodeFault (word (now (obligation .entry)) (now (second .entry)) m) (stateOf (word (now (obligation .entry)) (now (second .entry)) m) (now (frames .entry)) d) n) × Opened (word (now (obligation .entry)) (now (second .entry)) m) (length (now (keys .entry))) (now (frames .entry)) d n r (now (frames .exit)) × (now (reaches .exit) ≡ now (reaches .entry)) × Known (word (now (obligation .entry)) (now (second .entry)) m) (now (known .exit)) × (length (now (frames .exit)) ≡ length (now (frames .entry))) ⌝ }
 {
-    let why = nodes::node_fault(obligation, second, m, keys, reaches, frames, d, n);
+    let why = nodes::node_fault(obligation, second, m, keys, reaches, known, frames, d, n);
     if why != 0 {
         return why;
     }
@@ -47,13 +49,14 @@ fn walk_links(
     m: usize,
     keys: &[usize],
     reaches: &mut [u16],
-    frames: &mut [usize],
+    known: &mut [usize],
+    frames: &mut [usize; 32776],
     d: usize,
     n: usize,
     entered: usize,
 ) -> Answer
-    requires { ⌜ Following (word (now obligation) (now second) m) (now keys) (now frames) d n entered × Ready (word (now obligation) (now second) m) (now keys) (now reaches) ⌝ }
-    ensures { λ r. ⌜ (r ≡ follow (word (now (obligation .entry)) (now (second .entry)) m) (lower (word (now (obligation .entry)) (now (second .entry)) m) n 2) n 0 (stateOf (word (now (obligation .entry)) (now (second .entry)) m) (now (frames .entry)) d) entered) × Kept d (now (frames .entry)) (now (frames .exit)) × (now (reaches .exit) ≡ now (reaches .entry)) ⌝ }
+    requires { ⌜ Following (word (now obligation) (now second) m) (now keys) (now frames) d n entered × Ready (word (now obligation) (now second) m) (now keys) (now reaches) × Known (word (now obligation) (now second) m) (now known) ⌝ }
+    ensures { λ r. ⌜ (r ≡ follow (word (now (obligation .entry)) (now (second .entry)) m) (lower (word (now (obligation .entry)) (now (second .entry)) m) n 2) n 0 (stateOf (word (now (obligation .entry)) (now (second .entry)) m) (now (frames .entry)) d) entered) × Kept d (now (frames .entry)) (now (frames .exit)) × (now (reaches .exit) ≡ now (reaches .entry)) × Known (word (now (obligation .entry)) (now (second .entry)) m) (now (known .exit)) × (length (now (frames .exit)) ≡ length (now (frames .entry))) ⌝ }
 {
     let mut c = trees::lower_at(obligation, second, m, n, 2);
     let mut b = 0;
@@ -66,6 +69,7 @@ fn walk_links(
             m,
             keys,
             reaches,
+            known,
             frames,
             d + 1,
             x,
@@ -96,15 +100,16 @@ fn walk_node(
     m: usize,
     keys: &[usize],
     reaches: &mut [u16],
-    frames: &mut [usize],
+    known: &mut [usize],
+    frames: &mut [usize; 32776],
     d: usize,
     n: usize,
     count: usize,
 ) -> Answer
-    requires { ⌜ Entering (word (now obligation) (now second) m) (now keys) (now frames) d n count × Ready (word (now obligation) (now second) m) (now keys) (now reaches) ⌝ }
-    ensures { λ r. ⌜ (r ≡ visit (word (now (obligation .entry)) (now (second .entry)) m) n (stateOf (word (now (obligation .entry)) (now (second .entry)) m) (now (frames .entry)) d) count) × Kept d (now (frames .entry)) (now (frames .exit)) × (now (reaches .exit) ≡ now (reaches .entry)) ⌝ }
+    requires { ⌜ Entering (word (now obligation) (now second) m) (now keys) (now frames) d n count × Ready (word (now obligation) (now second) m) (now keys) (now reaches) × Known (word (now obligation) (now second) m) (now known) ⌝ }
+    ensures { λ r. ⌜ (r ≡ visit (word (now (obligation .entry)) (now (second .entry)) m) n (stateOf (word (now (obligation .entry)) (now (second .entry)) m) (now (frames .entry)) d) count) × Kept d (now (frames .entry)) (now (frames .exit)) × (now (reaches .exit) ≡ now (reaches .entry)) × Known (word (now (obligation .entry)) (now (second .entry)) m) (now (known .exit)) × (length (now (frames .exit)) ≡ length (now (frames .entry))) ⌝ }
 {
-    let why = enter(obligation, second, m, keys, reaches, frames, d, n);
+    let why = enter(obligation, second, m, keys, reaches, known, frames, d, n);
     if why != 0 {
         return Answer {
             refusal: why,
@@ -119,6 +124,7 @@ fn walk_node(
         m,
         keys,
         reaches,
+        known,
         frames,
         d,
         n,
@@ -134,13 +140,14 @@ pub fn walk(
     m: usize,
     keys: &[usize],
     reaches: &mut [u16],
-    frames: &mut [usize],
+    known: &mut [usize],
+    frames: &mut [usize; 32776],
     root: usize,
 ) -> Answer
-    requires { ⌜ Entering (word (now obligation) (now second) m) (now keys) (now frames) 1 root 0 × Ready (word (now obligation) (now second) m) (now keys) (now reaches) ⌝ }
-    ensures { λ r. ⌜ (r ≡ visit (word (now (obligation .entry)) (now (second .entry)) m) root (stateOf (word (now (obligation .entry)) (now (second .entry)) m) (now (frames .entry)) 1) 0) × Kept 1 (now (frames .entry)) (now (frames .exit)) × (now (reaches .exit) ≡ now (reaches .entry)) ⌝ }
+    requires { ⌜ Entering (word (now obligation) (now second) m) (now keys) (now frames) 1 root 0 × Ready (word (now obligation) (now second) m) (now keys) (now reaches) × Known (word (now obligation) (now second) m) (now known) ⌝ }
+    ensures { λ r. ⌜ (r ≡ visit (word (now (obligation .entry)) (now (second .entry)) m) root (stateOf (word (now (obligation .entry)) (now (second .entry)) m) (now (frames .entry)) 1) 0) × Kept 1 (now (frames .entry)) (now (frames .exit)) × (now (reaches .exit) ≡ now (reaches .entry)) × Known (word (now (obligation .entry)) (now (second .entry)) m) (now (known .exit)) ⌝ }
 {
-    let why = enter(obligation, second, m, keys, reaches, frames, 1, root);
+    let why = enter(obligation, second, m, keys, reaches, known, frames, 1, root);
     if why != 0 {
         return Answer {
             refusal: why,
@@ -149,5 +156,16 @@ pub fn walk(
             nodes: 1,
         };
     }
-    walk_links(obligation, second, m, keys, reaches, frames, 1, root, 1)
+    walk_links(
+        obligation,
+        second,
+        m,
+        keys,
+        reaches,
+        known,
+        frames,
+        1,
+        root,
+        1,
+    )
 }

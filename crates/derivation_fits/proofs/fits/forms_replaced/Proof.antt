@@ -6,13 +6,15 @@ use Rattle.derivation_fits.proofs.fits.forms_replaced.Tie as tie
 
 pub forms-replaced-spec : {M : Type 1} → statement M
 forms-replaced-spec = tie.close (tie.spec
-    -- form-key-requires: 3 args
+    -- form-key-requires
     (λ c κs. search needs)
-    -- form-key-requires-2: form-key; 4 args
+    -- form-key-requires-2: form-key
     (λ c κs. search needs)
-    -- form-key-requires-3: form-key2; 1 form-key; 5 args
+    -- form-key-requires-3: form-key2; form-key
     (λ c κs. search needs)
-    -- is-replaced-requires: form-key3; 1 form-key2; 2 form-key; 6 args
-    (λ c κs. (search needs, search form-normal, search form-normal, search form-normal))
-    -- returns: is-replaced; 1 form-key3; 2 form-key2; 3 form-key; 7 args
-    (λ c. search forms-replaced))
+    -- is-replaced-requires: form-key3; form-key2; form-key
+    (λ c κs. (search needs, search needs, search form-normal, search form-normal, search form-normal))
+    -- same-length: known; is-replaced; form-key3; form-key2; form-key
+    (λ c. search needs)
+    -- returns: known; is-replaced; form-key3; form-key2; form-key
+    (λ c. (search forms-replaced, c .before .before .is-replaced .ensures .1)))

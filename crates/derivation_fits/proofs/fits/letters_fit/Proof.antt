@@ -5,23 +5,25 @@ use Rattle.derivation_fits.proofs.fits.letters_fit.Tie as tie
 
 pub letters-fit-spec : {M : Type 1} → statement M
 letters-fit-spec = tie.close (tie.spec
-    -- column-requires: 3 args
+    -- column-requires
     (λ c κs. search needs)
-    -- column-requires-2: if1; 1 column; 5 args
+    -- column-requires-2: if1; column
     (λ c κs. search needs)
-    -- forms-equal-requires: column2; 1 if1; 2 column; 6 args
+    -- forms-equal-requires: column2; if1; column
     (λ c κs. search needs)
-    -- returns: forms-equal; 1 column2; 2 if1; 3 column; 7 args
-    (λ c. search letters-equal)
-    -- column-requires-3: if1; 1 column; 5 args
+    -- returns: forms-equal; column2; if1; column
+    (λ c. (search letters-equal, c .before .before .before .before .before .before .before .before .before .pre .2))
+    -- column-requires-3: if1; column
     (λ c κs. search needs)
-    -- returns-2: if2; 1 column3; 2 if1; 3 column; 7 args
-    (λ c. search letters-none)
-    -- column-requires-4: if2; 1 column3; 2 if1; 3 column; 7 args
+    -- returns-2: if2; column3; if1; column
+    (λ c. (search letters-none, c .before .before .before .before .before .before .before .before .before .pre .2))
+    -- column-requires-4: if2; column3; if1; column
     (λ c κs. search needs)
-    -- column-requires-5: column4; 1 if2; 2 column3; 3 if1; 4 column; 8 args
+    -- column-requires-5: column4; if2; column3; if1; column
     (λ c κs. search needs)
-    -- forms-replaced-requires: column5; 1 column4; 2 if2; 3 column3; 4 if1; 5 column; 9 args
+    -- forms-replaced-requires: column5; column4; if2; column3; if1; column
     (λ c κs. search needs)
-    -- returns-3: forms-replaced; 1 column5; 2 column4; 3 if2; 4 column3; 5 if1; 6 column; 10 args
-    (λ c. search letters-replaced))
+    -- same-length: known; forms-replaced; column5; column4; if2; column3; if1; column
+    (λ c. search needs)
+    -- returns-3: known; forms-replaced; column5; column4; if2; column3; if1; column
+    (λ c. (search letters-replaced, c .before .before .forms-replaced .ensures .1)))

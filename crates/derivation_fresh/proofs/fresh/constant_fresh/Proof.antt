@@ -10,7 +10,7 @@ constant-fresh-spec = tie.close (tie.spec
     -- word-at-requires: 5 args
     (λ c κs. search needs)
     -- returns: if1; 1 word-at; 7 args
-    (λ c. (search fresh-none, refl))
+    (λ c. (search fresh-none, refl, search needs))
     -- goal-at-requires: if1; 1 word-at; 7 args
     (λ c κs. search needs)
     -- form-key-requires: goal-at; 1 if1; 2 word-at; 8 args
@@ -19,11 +19,14 @@ constant-fresh-spec = tie.close (tie.spec
     (λ c κs. search form-normal)
     -- is-fresh-requires: is-fresh-arg; 1 atom-of; 2 form-key; 3 goal-at; 4 if1; 5 word-at; 11 args
     (λ c κs. search needs)
-    -- same-length: 1 reaches; 2 is-fresh; 3 is-fresh-arg; 4 atom-of; 5 form-key; 6 goal-at; 7 if1; 8 word-at; 14 args
+    -- same-length
     (λ c. search needs)
-    -- returns-2: 1 reaches; 2 is-fresh; 3 is-fresh-arg; 4 atom-of; 5 form-key; 6 goal-at; 7 if1; 8 word-at; 14 args
-    (λ c. let f = c .before .before .is-fresh .ensures in (
-      fresh-one _ _ _ _ (c .before .before .before .before .before .before .before .before .word-at .ensures) (c .before .before .before .before .before .before .before .if1 .left) _ _ _ _ _ _ _
-          (c .before .before .before .before .before .before .goal-at .ensures) (c .before .before .before .before .before .form-key .ensures) (c .before .before .before .before .atom-of .ensures) _ (f .0),
+    -- same-length-2
+    (λ c. search needs)
+    -- returns-2: 4 is-fresh; 7 atom-of; 8 form-key; 9 goal-at; 10 if1; 11 word-at; 18 args
+    (λ c. let f = c .before .before .before .before .is-fresh .ensures in (
+      fresh-one _ _ _ _ (c .before .before .before .before .before .before .before .before .before .before .before .word-at .ensures) (c .before .before .before .before .before .before .before .before .before .before .if1 .left) _ _ _ _ _ _ _
+          (c .before .before .before .before .before .before .before .before .before .goal-at .ensures) (c .before .before .before .before .before .before .before .before .form-key .ensures) (c .before .before .before .before .before .before .before .atom-of .ensures) _ (f .0),
       f .1,
+      f .2,
     )))

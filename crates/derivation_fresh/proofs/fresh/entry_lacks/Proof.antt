@@ -5,11 +5,13 @@ use Rattle.derivation_fresh.proofs.fresh.entry_lacks.Tie as tie
 
 pub entry-lacks-spec : {M : Type 1} → statement M
 entry-lacks-spec = tie.close (tie.spec
-    -- returns: if1; 5 args
-    (λ c. search added-none)
-    -- sub-key-lacks: if1; 5 args
+    -- returns
+    (λ c. (search added-none, search needs))
+    -- sub-lacks-below
     (λ c. search needs)
-    -- key-lacks-requires: if1; 5 args
-    (λ c κs. (search needs, c .before .before .before .before .before .pre .1 (c .if1 .left)))
-    -- returns-2: key-lacks; 1 if1; 6 args
-    (λ c. search added-one))
+    -- lacks-below-requires
+    (λ c κs. let p = c .before .before .before .before .before .before .before .pre in (search needs, p .1 (c .before .if1 .left), p .2 .far (c .before .if1 .left), search needs))
+    -- same-length
+    (λ c. search needs)
+    -- returns-2
+    (λ c. (search added-one, search needs)))

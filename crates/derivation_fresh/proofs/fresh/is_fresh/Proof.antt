@@ -13,10 +13,13 @@ is-fresh-spec = tie.close (tie.spec
     (λ c κs. search needs)
     -- unmark-all-requires: unmark-all-arg; 1 none-marked; 2 none-marked-arg; 4 reaches; 5 mark-all; 6 mark-all-arg; 7 top-of; 13 args
     (λ c κs. search needs)
-    -- same-length: 1 reaches2; 2 unmark-all; 3 unmark-all-arg; 4 none-marked; 5 none-marked-arg; 7 reaches; 8 mark-all; 9 mark-all-arg; 10 top-of; 16 args
+    -- same-length
     (λ c. search needs)
-    -- returns: 1 reaches2; 2 unmark-all; 3 unmark-all-arg; 4 none-marked; 5 none-marked-arg; 7 reaches; 8 mark-all; 9 mark-all-arg; 10 top-of; 16 args
-    (λ c. let marked = c .before .before .before .before .before .before .before .before in (
-      c .before .before .before .before .none-marked .ensures,
-      marks-off _ _ _ _ _ (marked .before .before .before .before .before .before .before .before .pre .3) (marked .mark-all .ensures .1) _ (search needs) (c .before .before .unmark-all .ensures),
+    -- same-length-2
+    (λ c. search needs)
+    -- returns: 2 unmark-all; 6 none-marked; 11 mark-all; 21 args
+    (λ c. let found = c .before .before .before .before .before .before .none-marked .ensures in (
+      found .0,
+      marks-off _ _ _ _ _ (c .before .before .before .before .before .before .before .before .before .before .before .before .before .before .before .before .before .before .before .before .before .pre .3) (c .before .before .before .before .before .before .before .before .before .before .before .mark-all .ensures .1) _ (search needs) (c .before .before .unmark-all .ensures),
+      found .1,
     )))

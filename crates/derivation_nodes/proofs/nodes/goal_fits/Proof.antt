@@ -7,11 +7,9 @@ use Rattle.derivation_nodes.proofs.nodes.goal_fits.Tie as tie
 
 pub goal-fits-spec : {M : Type 1} → statement M
 goal-fits-spec = tie.close (tie.spec
-    -- word-at-requires: 4 args
+    -- goal-at-requires: 4 args
     (λ c κs. search needs)
-    -- goal-at-requires: word-at; 5 args
-    (λ c κs. search needs)
-    -- goal-formed-requires: goal-at; 1 word-at; 6 args
+    -- goal-formed-requires: goal-at; 5 args
     (λ c κs. search goal-normal)
-    -- returns: goal-formed; 1 goal-at; 2 word-at; 7 args
+    -- returns: goal-formed; 1 goal-at; 6 args
     (λ c. search goal-fits))

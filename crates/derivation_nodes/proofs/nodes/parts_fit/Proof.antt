@@ -7,9 +7,11 @@ use Rattle.derivation_nodes.proofs.nodes.parts_fit.Tie as tie
 
 pub parts-fit-spec : {M : Type 1} → statement M
 parts-fit-spec = tie.close (tie.spec
-    -- goal-at-requires: 5 args
+    -- goal-at-requires
     (λ c κs. search needs)
-    -- fits-requires: goal-at; 6 args
-    (λ c κs. (search at-given, search needs))
-    -- returns: fits2; 1 goal-at; 7 args
-    (λ c. search fits-at))
+    -- fits-requires: goal-at
+    (λ c κs. (search at-given, search needs, search needs))
+    -- same-length: known; fits2; goal-at
+    (λ c. search needs)
+    -- returns: known; fits2; goal-at
+    (λ c. (search fits-at, c .before .before .fits2 .ensures .1)))

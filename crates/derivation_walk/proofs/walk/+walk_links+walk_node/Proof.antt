@@ -4,6 +4,7 @@ use Prim.Native.Nat.{ℕ, _+_, _*_, _<_}
 use mathlib.Core.Path.{_≡_, refl, ap, _∙_}
 use lib.ListN.{length}
 use Rattle.reader.specs.Words.{word}
+use Rattle.derivation_known.specs.Known.{Known}
 use Rattle.derivation_walk.specs.Turns.{Turn, first-turn, turn-end, turn-entering, turn-falls, turn-kept, turn-stop, turn-at, turn-passed, turn-place}
 use Rattle.derivation_walk.specs.Turns.{turn-less, next-none, next-some, entering-count, entered-stop, entered-following, entered-go, entered-kept, ready-same}
 use borrow.Fn.Kinds.{In}
@@ -20,33 +21,33 @@ use Rattle.reader.proofs.trees.lower_at.Reads as lower-at-reads
 use Rattle.derivation_walk.proofs.walk.+walk_links+walk_node.{statement}
 use Rattle.derivation_walk.proofs.walk.+walk_links+walk_node.Tie.{close}
 
-abbrev μ-walk-links : Measures 5 walk-links-kinds.ps ℕ
-μ-walk-links κs a = 2 * a .1 .1 .1 .1 .1 .1 .1 .0
+abbrev μ-walk-links : Measures 6 walk-links-kinds.ps ℕ
+μ-walk-links κs a = 2 * a .1 .1 .1 .1 .1 .1 .1 .1 .0
 
-abbrev μ-walk-node : Measures 5 walk-node-kinds.ps ℕ
-μ-walk-node κs a = 2 * a .1 .1 .1 .1 .1 .1 .1 .0 + 1
+abbrev μ-walk-node : Measures 6 walk-node-kinds.ps ℕ
+μ-walk-node κs a = 2 * a .1 .1 .1 .1 .1 .1 .1 .1 .0 + 1
 
-abbrev walk-links-at : ℕ → In 5 walk-links-kinds.ps
+abbrev walk-links-at : ℕ → In 6 walk-links-kinds.ps
 walk-links-at t =
-    and 5 walk-links-kinds.ps (is 5 walk-links-kinds.ps μ-walk-links t) walk-links.Pre
+    and 6 walk-links-kinds.ps (is 6 walk-links-kinds.ps μ-walk-links t) walk-links.Pre
 
-abbrev walk-links-below : ℕ → In 5 walk-links-kinds.ps
+abbrev walk-links-below : ℕ → In 6 walk-links-kinds.ps
 walk-links-below t =
-    and 5 walk-links-kinds.ps (falls 5 walk-links-kinds.ps _<_ μ-walk-links t) walk-links.Pre
+    and 6 walk-links-kinds.ps (falls 6 walk-links-kinds.ps _<_ μ-walk-links t) walk-links.Pre
 
-abbrev walk-node-at : ℕ → In 5 walk-node-kinds.ps
-walk-node-at t = and 5 walk-node-kinds.ps (is 5 walk-node-kinds.ps μ-walk-node t) walk-node.Pre
+abbrev walk-node-at : ℕ → In 6 walk-node-kinds.ps
+walk-node-at t = and 6 walk-node-kinds.ps (is 6 walk-node-kinds.ps μ-walk-node t) walk-node.Pre
 
-abbrev walk-node-below : ℕ → In 5 walk-node-kinds.ps
+abbrev walk-node-below : ℕ → In 6 walk-node-kinds.ps
 walk-node-below t =
-    and 5 walk-node-kinds.ps (falls 5 walk-node-kinds.ps _<_ μ-walk-node t) walk-node.Pre
+    and 6 walk-node-kinds.ps (falls 6 walk-node-kinds.ps _<_ μ-walk-node t) walk-node.Pre
 
 abbrev walk-links-Inv-loop : walk-links-lts.InvT-loop
-walk-links-Inv-loop obligation second m keys reaches₀ frames₀ d n entered c₀ b₀ count₀ reaches frames c b count =
-    Turn (word obligation second m) keys frames₀ d n entered frames c b count × (reaches ≡ reaches₀)
+walk-links-Inv-loop obligation second m keys reaches₀ known₀ frames₀ d n entered c₀ b₀ count₀ reaches known frames c b count =
+    Turn (word obligation second m) keys frames₀ d n entered frames c b count × (reaches ≡ reaches₀) × Known (word obligation second m) known × (length known ≡ length known₀)
 
 abbrev walk-links-μ-loop : walk-links-lts.MeasureT-loop
-walk-links-μ-loop obligation second m keys reaches₀ frames₀ d n entered c₀ b₀ count₀ reaches frames c b count = c
+walk-links-μ-loop obligation second m keys reaches₀ known₀ frames₀ d n entered c₀ b₀ count₀ reaches known frames c b count = c
 
 abbrev walk-links-calls : ℕ → walk-links-lts.Claims
 walk-links-calls t = (lower-at-reads.Asked, lower-at-reads.Learnt, walk-node-below t, walk-node.Post, push-premise-reads.Asked, push-premise-reads.Learnt)
@@ -57,60 +58,60 @@ walk-node-calls t = (enter-reads.Asked, enter-reads.Learnt, walk-links-below t, 
 pub +walk-links+walk-node-spec : {M : Type 1} → statement M
 +walk-links+walk-node-spec = close μ-walk-links μ-walk-node
     (λ t. walk-links-lts.spec (walk-links-calls t) (walk-links-at t) walk-links.Post walk-links-Inv-loop walk-links-μ-loop
-    -- lower-at-requires: 5 args
+    -- lower-at-requires
     (λ c κs. search needs)
-    -- loop-holds: lower-at; 6 args
-    (λ c. (first-turn _ _ _ _ _ _ (c .before .before .before .before .before .before .pre .1 .0) _ (c .lower-at .ensures), refl))
-    -- lower-at-requires-2: loop-test; 1 loop; 2 lower-at; 8 args
+    -- loop-holds: lower-at
+    (λ c. (first-turn _ _ _ _ _ _ (c .before .before .before .before .before .before .pre .1 .0) _ (c .lower-at .ensures), refl, c .before .before .before .before .before .before .pre .1 .2, refl))
+    -- lower-at-requires-2: loop-test; loop; lower-at
     (λ c κs. search needs)
-    -- add-walk-node: walk-node-arg2; 1 walk-node-arg; 2 lower-at2; 3 loop-test; 4 loop; 5 lower-at; 11 args
-    (λ c. omega (arith, c .before .before .before .before .before .before .before .before .before .before .before .pre .1 .0 .here .framed .deep))
-    -- walk-node-requires: walk-node-arg2; 1 walk-node-arg; 2 lower-at2; 3 loop-test; 4 loop; 5 lower-at; 11 args
-    (λ c κs. (turn-falls _ _ _ _ _ _ (c .before .before .before .before .before .before .before .before .before .before .before .pre .1 .0) _ _ _ _ (c .before .before .before .before .loop .inv .0) (c .before .before .before .loop-test .taken) _ (c .before .before .lower-at2 .ensures) t (c .before .before .before .before .before .before .before .before .before .before .before .pre .0), (turn-entering _ _ _ _ _ _ (c .before .before .before .before .before .before .before .before .before .before .before .pre .1 .0) _ _ _ _ (c .before .before .before .before .loop .inv .0) (c .before .before .before .loop-test .taken) _ (c .before .before .lower-at2 .ensures), ready-same _ _ _ _ (c .before .before .before .before .before .before .before .before .before .before .before .pre .1 .1) (c .before .before .before .before .loop .inv .1))))
-    -- same-length: if1; 1 struct-known; 3 frames; 5 reaches; 6 walk-node; 7 walk-node-arg2; 8 walk-node-arg; 9 lower-at2; 10 loop-test; 11 loop; 12 lower-at; 18 args
-    (λ c. c .before .before .before .before .before .before .walk-node .kept .1 .1 .1 .1 .0 ∙ ap length (c .before .before .before .before .before .before .before .before .before .before .before .loop .inv .1))
-    -- same-length-2: if1; 1 struct-known; 3 frames; 5 reaches; 6 walk-node; 7 walk-node-arg2; 8 walk-node-arg; 9 lower-at2; 10 loop-test; 11 loop; 12 lower-at; 18 args
-    (λ c. c .before .before .before .before .before .before .walk-node .kept .1 .1 .1 .1 .1 .0 ∙ c .before .before .before .before .before .before .before .before .before .before .before .loop .inv .0 .long)
-    -- returns: if1; 1 struct-known; 3 frames; 5 reaches; 6 walk-node; 7 walk-node-arg2; 8 walk-node-arg; 9 lower-at2; 10 loop-test; 11 loop; 12 lower-at; 18 args
-    (λ c. (turn-stop _ _ _ _ _ _ (c .before .before .before .before .before .before .before .before .before .before .before .before .before .before .before .before .before .before .pre .1 .0) _ _ _ _ (c .before .before .before .before .before .before .before .before .before .before .before .loop .inv .0) (c .before .before .before .before .before .before .before .before .before .before .loop-test .taken) _ (c .before .before .before .before .before .before .before .before .before .lower-at2 .ensures) _ (c .before .before .before .before .before .before .walk-node .kept .1 .1 .1 .1 .1 .0) (c .before .before .before .before .before .before .walk-node .ensures .1) _ (c .before .before .before .before .before .before .walk-node .ensures .0) (c .if1 .taken), turn-kept _ _ _ _ _ _ (c .before .before .before .before .before .before .before .before .before .before .before .before .before .before .before .before .before .before .pre .1 .0) _ _ _ _ (c .before .before .before .before .before .before .before .before .before .before .before .loop .inv .0) (c .before .before .before .before .before .before .before .before .before .before .loop-test .taken) _ (c .before .before .before .before .before .before .before .before .before .lower-at2 .ensures) _ (c .before .before .before .before .before .before .walk-node .kept .1 .1 .1 .1 .1 .0) (c .before .before .before .before .before .before .walk-node .ensures .1) _ (c .before .before .before .before .before .before .walk-node .ensures .0), c .before .before .before .before .before .before .walk-node .ensures .2 ∙ c .before .before .before .before .before .before .before .before .before .before .before .loop .inv .1))
-    -- add-b: if1; 1 struct-known; 3 frames; 5 reaches; 6 walk-node; 7 walk-node-arg2; 8 walk-node-arg; 9 lower-at2; 10 loop-test; 11 loop; 12 lower-at; 18 args
-    (λ c. omega (arith, c .before .before .before .before .before .before .before .before .before .before .before .loop .inv .0 .steps, c .before .before .before .before .before .before .before .before .before .before .before .before .before .before .before .before .before .before .pre .1 .0 .here .within, c .before .before .before .before .before .before .before .before .before .before .before .before .before .before .before .before .before .before .pre .1 .0 .here .small))
-    -- lower-at-requires-3: if1; 1 struct-known; 3 frames; 5 reaches; 6 walk-node; 7 walk-node-arg2; 8 walk-node-arg; 9 lower-at2; 10 loop-test; 11 loop; 12 lower-at; 18 args
+    -- add-walk-node: lower-at2; loop-test; loop; lower-at
+    (λ c. omega (arith, c .before .before .before .before .before .before .before .before .before .before .before .before .pre .1 .0 .here .framed .deep))
+    -- walk-node-requires: lower-at2; loop-test; loop; lower-at
+    (λ c κs. (turn-falls _ _ _ _ _ _ (c .before .before .before .before .before .before .before .before .before .before .before .before .pre .1 .0) _ _ _ _ (c .before .before .before .before .before .loop .inv .0) (c .before .before .before .before .loop-test .taken) _ (c .before .before .before .lower-at2 .ensures) t (c .before .before .before .before .before .before .before .before .before .before .before .before .pre .0), (turn-entering _ _ _ _ _ _ (c .before .before .before .before .before .before .before .before .before .before .before .before .pre .1 .0) _ _ _ _ (c .before .before .before .before .before .loop .inv .0) (c .before .before .before .before .loop-test .taken) _ (c .before .before .before .lower-at2 .ensures), ready-same _ _ _ _ (c .before .before .before .before .before .before .before .before .before .before .before .before .pre .1 .1) (c .before .before .before .before .before .loop .inv .1), c .before .before .before .before .before .loop .inv .2)))
+    -- same-length: if1; struct-known; known; reaches; walk-node; lower-at2; loop-test; loop; lower-at
+    (λ c. c .before .before .before .before .before .before .walk-node .kept .1 .1 .1 .1 .0 ∙ ap length (c .before .before .before .before .before .before .before .before .before .before .before .before .loop .inv .1))
+    -- same-length-2: if1; struct-known; known; reaches; walk-node; lower-at2; loop-test; loop; lower-at
+    (λ c. c .before .before .before .before .before .before .walk-node .kept .1 .1 .1 .1 .1 .0 ∙ c .before .before .before .before .before .before .before .before .before .before .before .before .loop .inv .3)
+    -- returns: if1; struct-known; known; reaches; walk-node; lower-at2; loop-test; loop; lower-at
+    (λ c. (turn-stop _ _ _ _ _ _ (c .before .before .before .before .before .before .before .before .before .before .before .before .before .before .before .before .before .before .before .pre .1 .0) _ _ _ _ (c .before .before .before .before .before .before .before .before .before .before .before .before .loop .inv .0) (c .before .before .before .before .before .before .before .before .before .before .before .loop-test .taken) _ (c .before .before .before .before .before .before .before .before .before .before .lower-at2 .ensures) _ (c .before .before .before .before .before .before .walk-node .ensures .4) (c .before .before .before .before .before .before .walk-node .ensures .1) _ (c .before .before .before .before .before .before .walk-node .ensures .0) (c .if1 .taken), turn-kept _ _ _ _ _ _ (c .before .before .before .before .before .before .before .before .before .before .before .before .before .before .before .before .before .before .before .pre .1 .0) _ _ _ _ (c .before .before .before .before .before .before .before .before .before .before .before .before .loop .inv .0) (c .before .before .before .before .before .before .before .before .before .before .before .loop-test .taken) _ (c .before .before .before .before .before .before .before .before .before .before .lower-at2 .ensures) _ (c .before .before .before .before .before .before .walk-node .ensures .4) (c .before .before .before .before .before .before .walk-node .ensures .1) _ (c .before .before .before .before .before .before .walk-node .ensures .0), c .before .before .before .before .before .before .walk-node .ensures .2 ∙ c .before .before .before .before .before .before .before .before .before .before .before .before .loop .inv .1, c .before .before .before .before .before .before .walk-node .ensures .3, c .before .before .before .before .before .before .walk-node .ensures .4 ∙ c .before .before .before .before .before .before .before .before .before .before .before .before .loop .inv .0 .long))
+    -- add-b: if1; struct-known; known; reaches; walk-node; lower-at2; loop-test; loop; lower-at
+    (λ c. omega (arith, c .before .before .before .before .before .before .before .before .before .before .before .before .loop .inv .0 .steps, c .before .before .before .before .before .before .before .before .before .before .before .before .before .before .before .before .before .before .before .pre .1 .0 .here .within, c .before .before .before .before .before .before .before .before .before .before .before .before .before .before .before .before .before .before .before .pre .1 .0 .here .small))
+    -- lower-at-requires-3: if1; struct-known; known; reaches; walk-node; lower-at2; loop-test; loop; lower-at
     (λ c κs. search needs)
-    -- push-premise-requires: push-premise-arg; 1 if2; 2 lower-at3; 3 if1; 4 struct-known; 6 frames; 8 reaches; 9 walk-node; 10 walk-node-arg2; 11 walk-node-arg; 12 lower-at2; 13 loop-test; 14 loop; 15 lower-at; 21 args
-    (λ c κs. (turn-at _ _ _ _ _ _ (c .before .before .before .before .before .before .before .before .before .before .before .before .before .before .before .before .before .before .before .before .before .pre .1 .0) _ _ _ _ (c .before .before .before .before .before .before .before .before .before .before .before .before .before .before .loop .inv .0) (c .before .before .before .before .before .before .before .before .before .before .before .before .before .loop-test .taken) _ (c .before .before .before .before .before .before .before .before .before .before .before .before .lower-at2 .ensures) _ (c .before .before .before .before .before .before .before .before .before .walk-node .kept .1 .1 .1 .1 .1 .0) (c .before .before .before .before .before .before .before .before .before .walk-node .ensures .1) _ (c .before .before .before .before .before .before .before .before .before .walk-node .ensures .0), turn-passed _ _ _ _ _ _ (c .before .before .before .before .before .before .before .before .before .before .before .before .before .before .before .before .before .before .before .before .before .pre .1 .0) _ _ _ _ (c .before .before .before .before .before .before .before .before .before .before .before .before .before .before .loop .inv .0) (c .before .before .before .before .before .before .before .before .before .before .before .before .before .loop-test .taken) _ (c .before .before .before .before .before .before .before .before .before .before .before .before .lower-at2 .ensures) _ (c .before .before .before .before .before .before .before .before .before .walk-node .kept .1 .1 .1 .1 .1 .0) (c .before .before .before .before .before .before .before .before .before .walk-node .ensures .1) _ (c .before .before .before .before .before .before .before .before .before .walk-node .ensures .0), omega (arith, turn-place _ _ _ _ _ _ (c .before .before .before .before .before .before .before .before .before .before .before .before .before .before .before .before .before .before .before .before .before .pre .1 .0) _ _ _ _ (c .before .before .before .before .before .before .before .before .before .before .before .before .before .before .loop .inv .0) (c .before .before .before .before .before .before .before .before .before .before .before .before .before .loop-test .taken) _ (c .before .before .before .before .before .before .before .before .before .before .before .before .lower-at2 .ensures) _ (c .before .before .before .before .before .before .before .before .before .walk-node .kept .1 .1 .1 .1 .1 .0) (c .before .before .before .before .before .before .before .before .before .walk-node .ensures .1) _ (c .before .before .before .before .before .before .before .before .before .walk-node .ensures .0) _ (c .before .before .lower-at3 .ensures) (c .before .if2 .taken))))
-    -- loop-less: 1 frames2; 2 push-premise; 3 push-premise-arg; 4 if2; 5 lower-at3; 6 if1; 7 struct-known; 9 frames; 11 reaches; 12 walk-node; 13 walk-node-arg2; 14 walk-node-arg; 15 lower-at2; 16 loop-test; 17 loop; 18 lower-at; 24 args
-    (λ c. turn-less _ _ _ (c .before .before .before .before .before .before .before .before .before .before .before .before .before .before .before .before .loop-test .taken) (c .before .before .before .before .before .lower-at3 .ensures))
-    -- loop-again: 1 frames2; 2 push-premise; 3 push-premise-arg; 4 if2; 5 lower-at3; 6 if1; 7 struct-known; 9 frames; 11 reaches; 12 walk-node; 13 walk-node-arg2; 14 walk-node-arg; 15 lower-at2; 16 loop-test; 17 loop; 18 lower-at; 24 args
-    (λ c. (next-some _ _ _ _ _ _ (c .before .before .before .before .before .before .before .before .before .before .before .before .before .before .before .before .before .before .before .before .before .before .before .before .pre .1 .0) _ _ _ _ (c .before .before .before .before .before .before .before .before .before .before .before .before .before .before .before .before .before .loop .inv .0) (c .before .before .before .before .before .before .before .before .before .before .before .before .before .before .before .before .loop-test .taken) _ (c .before .before .before .before .before .before .before .before .before .before .before .before .before .before .before .lower-at2 .ensures) _ (c .before .before .before .before .before .before .before .before .before .before .before .before .walk-node .kept .1 .1 .1 .1 .1 .0) (c .before .before .before .before .before .before .before .before .before .before .before .before .walk-node .ensures .1) _ (c .before .before .before .before .before .before .before .before .before .before .before .before .walk-node .ensures .0) _ (c .before .before .before .before .before .lower-at3 .ensures) (c .before .before .before .before .before .before .if1 .left) _ (c .before .before .push-premise .kept .1 .1 .1 .1 .0) (c .before .before .push-premise .ensures), c .before .before .before .before .before .before .before .before .before .before .before .before .walk-node .ensures .2 ∙ c .before .before .before .before .before .before .before .before .before .before .before .before .before .before .before .before .before .loop .inv .1))
-    -- loop-less-2: if2; 1 lower-at3; 2 if1; 3 struct-known; 5 frames; 7 reaches; 8 walk-node; 9 walk-node-arg2; 10 walk-node-arg; 11 lower-at2; 12 loop-test; 13 loop; 14 lower-at; 20 args
-    (λ c. turn-less _ _ _ (c .before .before .before .before .before .before .before .before .before .before .before .before .loop-test .taken) (c .before .lower-at3 .ensures))
-    -- loop-again-2: if2; 1 lower-at3; 2 if1; 3 struct-known; 5 frames; 7 reaches; 8 walk-node; 9 walk-node-arg2; 10 walk-node-arg; 11 lower-at2; 12 loop-test; 13 loop; 14 lower-at; 20 args
-    (λ c. (next-none _ _ _ _ _ _ (c .before .before .before .before .before .before .before .before .before .before .before .before .before .before .before .before .before .before .before .before .pre .1 .0) _ _ _ _ (c .before .before .before .before .before .before .before .before .before .before .before .before .before .loop .inv .0) (c .before .before .before .before .before .before .before .before .before .before .before .before .loop-test .taken) _ (c .before .before .before .before .before .before .before .before .before .before .before .lower-at2 .ensures) _ (c .before .before .before .before .before .before .before .before .walk-node .kept .1 .1 .1 .1 .1 .0) (c .before .before .before .before .before .before .before .before .walk-node .ensures .1) _ (c .before .before .before .before .before .before .before .before .walk-node .ensures .0) _ (c .before .lower-at3 .ensures) (c .before .before .if1 .left) (c .if2 .left), c .before .before .before .before .before .before .before .before .walk-node .ensures .2 ∙ c .before .before .before .before .before .before .before .before .before .before .before .before .before .loop .inv .1))
-    -- same-length-3: loop-test; 1 loop; 2 lower-at; 8 args
+    -- push-premise-requires: if2; lower-at3; if1; struct-known; known; reaches; walk-node; lower-at2; loop-test; loop; lower-at
+    (λ c κs. (turn-at _ _ _ _ _ _ (c .before .before .before .before .before .before .before .before .before .before .before .before .before .before .before .before .before .before .before .before .before .before .pre .1 .0) _ _ _ _ (c .before .before .before .before .before .before .before .before .before .before .before .before .before .before .before .loop .inv .0) (c .before .before .before .before .before .before .before .before .before .before .before .before .before .before .loop-test .taken) _ (c .before .before .before .before .before .before .before .before .before .before .before .before .before .lower-at2 .ensures) _ (c .before .before .before .before .before .before .before .before .before .walk-node .ensures .4) (c .before .before .before .before .before .before .before .before .before .walk-node .ensures .1) _ (c .before .before .before .before .before .before .before .before .before .walk-node .ensures .0), turn-passed _ _ _ _ _ _ (c .before .before .before .before .before .before .before .before .before .before .before .before .before .before .before .before .before .before .before .before .before .before .pre .1 .0) _ _ _ _ (c .before .before .before .before .before .before .before .before .before .before .before .before .before .before .before .loop .inv .0) (c .before .before .before .before .before .before .before .before .before .before .before .before .before .before .loop-test .taken) _ (c .before .before .before .before .before .before .before .before .before .before .before .before .before .lower-at2 .ensures) _ (c .before .before .before .before .before .before .before .before .before .walk-node .ensures .4) (c .before .before .before .before .before .before .before .before .before .walk-node .ensures .1) _ (c .before .before .before .before .before .before .before .before .before .walk-node .ensures .0), omega (arith, turn-place _ _ _ _ _ _ (c .before .before .before .before .before .before .before .before .before .before .before .before .before .before .before .before .before .before .before .before .before .before .pre .1 .0) _ _ _ _ (c .before .before .before .before .before .before .before .before .before .before .before .before .before .before .before .loop .inv .0) (c .before .before .before .before .before .before .before .before .before .before .before .before .before .before .loop-test .taken) _ (c .before .before .before .before .before .before .before .before .before .before .before .before .before .lower-at2 .ensures) _ (c .before .before .before .before .before .before .before .before .before .walk-node .ensures .4) (c .before .before .before .before .before .before .before .before .before .walk-node .ensures .1) _ (c .before .before .before .before .before .before .before .before .before .walk-node .ensures .0) _ (c .before .before .lower-at3 .ensures) (c .before .if2 .taken))))
+    -- loop-less: push-premise; if2; lower-at3; if1; struct-known; known; reaches; walk-node; lower-at2; loop-test; loop; lower-at
+    (λ c. turn-less _ _ _ (c .before .before .before .before .before .before .before .before .before .before .before .before .before .before .before .loop-test .taken) (c .before .before .before .lower-at3 .ensures))
+    -- loop-again: push-premise; if2; lower-at3; if1; struct-known; known; reaches; walk-node; lower-at2; loop-test; loop; lower-at
+    (λ c. (next-some _ _ _ _ _ _ (c .before .before .before .before .before .before .before .before .before .before .before .before .before .before .before .before .before .before .before .before .before .before .before .pre .1 .0) _ _ _ _ (c .before .before .before .before .before .before .before .before .before .before .before .before .before .before .before .before .loop .inv .0) (c .before .before .before .before .before .before .before .before .before .before .before .before .before .before .before .loop-test .taken) _ (c .before .before .before .before .before .before .before .before .before .before .before .before .before .before .lower-at2 .ensures) _ (c .before .before .before .before .before .before .before .before .before .before .walk-node .ensures .4) (c .before .before .before .before .before .before .before .before .before .before .walk-node .ensures .1) _ (c .before .before .before .before .before .before .before .before .before .before .walk-node .ensures .0) _ (c .before .before .before .lower-at3 .ensures) (c .before .before .before .before .if1 .left) _ (c .push-premise .kept .1 .1 .1 .1 .0) (c .push-premise .ensures), c .before .before .before .before .before .before .before .before .before .before .walk-node .ensures .2 ∙ c .before .before .before .before .before .before .before .before .before .before .before .before .before .before .before .before .loop .inv .1, c .before .before .before .before .before .before .before .before .before .before .walk-node .ensures .3, c .before .before .before .before .before .before .before .before .before .before .walk-node .kept .1 .1 .1 .1 .1 .0 ∙ c .before .before .before .before .before .before .before .before .before .before .before .before .before .before .before .before .loop .inv .3))
+    -- loop-less-2: if2; lower-at3; if1; struct-known; known; reaches; walk-node; lower-at2; loop-test; loop; lower-at
+    (λ c. turn-less _ _ _ (c .before .before .before .before .before .before .before .before .before .before .before .before .before .loop-test .taken) (c .before .lower-at3 .ensures))
+    -- loop-again-2: if2; lower-at3; if1; struct-known; known; reaches; walk-node; lower-at2; loop-test; loop; lower-at
+    (λ c. (next-none _ _ _ _ _ _ (c .before .before .before .before .before .before .before .before .before .before .before .before .before .before .before .before .before .before .before .before .before .pre .1 .0) _ _ _ _ (c .before .before .before .before .before .before .before .before .before .before .before .before .before .before .loop .inv .0) (c .before .before .before .before .before .before .before .before .before .before .before .before .before .loop-test .taken) _ (c .before .before .before .before .before .before .before .before .before .before .before .before .lower-at2 .ensures) _ (c .before .before .before .before .before .before .before .before .walk-node .ensures .4) (c .before .before .before .before .before .before .before .before .walk-node .ensures .1) _ (c .before .before .before .before .before .before .before .before .walk-node .ensures .0) _ (c .before .lower-at3 .ensures) (c .before .before .if1 .left) (c .if2 .left), c .before .before .before .before .before .before .before .before .walk-node .ensures .2 ∙ c .before .before .before .before .before .before .before .before .before .before .before .before .before .before .loop .inv .1, c .before .before .before .before .before .before .before .before .walk-node .ensures .3, c .before .before .before .before .before .before .before .before .walk-node .kept .1 .1 .1 .1 .1 .0 ∙ c .before .before .before .before .before .before .before .before .before .before .before .before .before .before .loop .inv .3))
+    -- same-length-3: loop-test; loop; lower-at
     (λ c. ap length (c .before .loop .inv .1))
-    -- same-length-4: loop-test; 1 loop; 2 lower-at; 8 args
-    (λ c. c .before .loop .inv .0 .long)
-    -- returns-2: loop-test; 1 loop; 2 lower-at; 8 args
-    (λ c. (turn-end _ _ _ _ _ _ (c .before .before .before .before .before .before .before .before .pre .1 .0) _ _ _ _ (c .before .loop .inv .0) (c .loop-test .left), c .before .loop .inv .0 .kept, c .before .loop .inv .1)))
+    -- same-length-4: loop-test; loop; lower-at
+    (λ c. c .before .loop .inv .3)
+    -- returns-2: loop-test; loop; lower-at
+    (λ c. (turn-end _ _ _ _ _ _ (c .before .before .before .before .before .before .before .before .pre .1 .0) _ _ _ _ (c .before .loop .inv .0) (c .loop-test .left), c .before .loop .inv .0 .kept, c .before .loop .inv .1, c .before .loop .inv .2, c .before .loop .inv .0 .long)))
     (λ t. walk-node-lts.spec (walk-node-calls t) (walk-node-at t) walk-node.Post
-    -- enter-requires: enter-arg2; 1 enter-arg; 7 args
-    (λ c κs. (c .before .before .before .before .before .before .before .pre .1 .0 .here, c .before .before .before .before .before .before .before .pre .1 .1))
-    -- add-t16: if1; 2 frames; 4 reaches; 5 enter; 6 enter-arg2; 7 enter-arg; 13 args
-    (λ c. omega (arith, entering-count _ _ _ _ _ _ (c .before .before .before .before .before .before .before .before .before .before .before .before .before .pre .1 .0)))
-    -- same-length: if1; 2 frames; 4 reaches; 5 enter; 6 enter-arg2; 7 enter-arg; 13 args
+    -- enter-requires
+    (λ c κs. (c .before .before .before .before .before .before .before .before .pre .1 .0 .here, c .before .before .before .before .before .before .before .before .pre .1 .1, c .before .before .before .before .before .before .before .before .pre .1 .2))
+    -- add-t18: if1; known; reaches; enter
+    (λ c. omega (arith, entering-count _ _ _ _ _ _ (c .before .before .before .before .before .before .before .before .before .before .before .before .before .before .pre .1 .0)))
+    -- same-length: if1; known; reaches; enter
     (λ c. search needs)
-    -- same-length-2: if1; 2 frames; 4 reaches; 5 enter; 6 enter-arg2; 7 enter-arg; 13 args
+    -- same-length-2: if1; known; reaches; enter
     (λ c. search needs)
-    -- returns: if1; 2 frames; 4 reaches; 5 enter; 6 enter-arg2; 7 enter-arg; 13 args
-    (λ c. (entered-stop _ _ _ _ _ _ (c .before .before .before .before .before .before .before .before .before .before .before .before .before .pre .1 .0) _ (c .before .before .before .before .before .enter .ensures .0) _ (c .before .before .before .before .before .enter .ensures .1) (c .before .before .before .before .before .enter .kept .1 .1 .1 .1 .1 .0) (c .if1 .taken), c .before .before .before .before .before .enter .ensures .1 .kept, c .before .before .before .before .before .enter .ensures .2))
-    -- add-walk-links: walk-links-arg2; 1 walk-links-arg; 2 if1; 4 frames; 6 reaches; 7 enter; 8 enter-arg2; 9 enter-arg; 15 args
-    (λ c. omega (arith, entering-count _ _ _ _ _ _ (c .before .before .before .before .before .before .before .before .before .before .before .before .before .before .before .pre .1 .0)))
-    -- walk-links-requires: walk-links-arg2; 1 walk-links-arg; 2 if1; 4 frames; 6 reaches; 7 enter; 8 enter-arg2; 9 enter-arg; 15 args
-    (λ c κs. (omega (arith, c .before .before .before .before .before .before .before .before .before .before .before .before .before .before .before .pre .0), (entered-following _ _ _ _ _ _ (c .before .before .before .before .before .before .before .before .before .before .before .before .before .before .before .pre .1 .0) _ (c .before .before .before .before .before .before .before .enter .ensures .0) _ (c .before .before .before .before .before .before .before .enter .ensures .1) (c .before .before .before .before .before .before .before .enter .kept .1 .1 .1 .1 .1 .0) (c .before .before .if1 .left), ready-same _ _ _ _ (c .before .before .before .before .before .before .before .before .before .before .before .before .before .before .before .pre .1 .1) (c .before .before .before .before .before .before .before .enter .ensures .2))))
-    -- same-length-3: 1 frames2; 3 reaches2; 4 walk-links; 5 walk-links-arg2; 6 walk-links-arg; 7 if1; 9 frames; 11 reaches; 12 enter; 13 enter-arg2; 14 enter-arg; 20 args
-    (λ c. c .before .before .before .before .walk-links .kept .1 .1 .1 .1 .0 ∙ c .before .before .before .before .before .before .before .before .before .before .before .before .enter .kept .1 .1 .1 .1 .0)
-    -- same-length-4: 1 frames2; 3 reaches2; 4 walk-links; 5 walk-links-arg2; 6 walk-links-arg; 7 if1; 9 frames; 11 reaches; 12 enter; 13 enter-arg2; 14 enter-arg; 20 args
-    (λ c. c .before .before .before .before .walk-links .kept .1 .1 .1 .1 .1 .0 ∙ c .before .before .before .before .before .before .before .before .before .before .before .before .enter .kept .1 .1 .1 .1 .1 .0)
-    -- returns-2: 1 frames2; 3 reaches2; 4 walk-links; 5 walk-links-arg2; 6 walk-links-arg; 7 if1; 9 frames; 11 reaches; 12 enter; 13 enter-arg2; 14 enter-arg; 20 args
-    (λ c. (entered-go _ _ _ _ _ _ (c .before .before .before .before .before .before .before .before .before .before .before .before .before .before .before .before .before .before .before .before .pre .1 .0) _ (c .before .before .before .before .before .before .before .before .before .before .before .before .enter .ensures .0) _ (c .before .before .before .before .before .before .before .before .before .before .before .before .enter .ensures .1) (c .before .before .before .before .before .before .before .before .before .before .before .before .enter .kept .1 .1 .1 .1 .1 .0) (c .before .before .before .before .before .before .before .if1 .left) _ (c .before .before .before .before .walk-links .ensures .0), entered-kept _ _ _ _ _ _ (c .before .before .before .before .before .before .before .before .before .before .before .before .before .before .before .before .before .before .before .before .pre .1 .0) _ (c .before .before .before .before .before .before .before .before .before .before .before .before .enter .ensures .0) _ (c .before .before .before .before .before .before .before .before .before .before .before .before .enter .ensures .1) (c .before .before .before .before .before .before .before .before .before .before .before .before .enter .kept .1 .1 .1 .1 .1 .0) (c .before .before .before .before .before .before .before .if1 .left) _ (c .before .before .before .before .walk-links .ensures .1), c .before .before .before .before .walk-links .ensures .2 ∙ c .before .before .before .before .before .before .before .before .before .before .before .before .enter .ensures .2)))
+    -- returns: if1; known; reaches; enter
+    (λ c. (entered-stop _ _ _ _ _ _ (c .before .before .before .before .before .before .before .before .before .before .before .before .before .before .pre .1 .0) _ (c .before .before .before .before .before .enter .ensures .0) _ (c .before .before .before .before .before .enter .ensures .1) (c .before .before .before .before .before .enter .ensures .4) (c .if1 .taken), c .before .before .before .before .before .enter .ensures .1 .kept, c .before .before .before .before .before .enter .ensures .2, c .before .before .before .before .before .enter .ensures .3, c .before .before .before .before .before .enter .ensures .4))
+    -- add-walk-links: if1; known; reaches; enter
+    (λ c. omega (arith, entering-count _ _ _ _ _ _ (c .before .before .before .before .before .before .before .before .before .before .before .before .before .before .before .before .before .pre .1 .0)))
+    -- walk-links-requires: if1; known; reaches; enter
+    (λ c κs. (omega (arith, c .before .before .before .before .before .before .before .before .before .before .before .before .before .before .before .before .before .pre .0), (entered-following _ _ _ _ _ _ (c .before .before .before .before .before .before .before .before .before .before .before .before .before .before .before .before .before .pre .1 .0) _ (c .before .before .before .before .before .before .before .before .enter .ensures .0) _ (c .before .before .before .before .before .before .before .before .enter .ensures .1) (c .before .before .before .before .before .before .before .before .enter .ensures .4) (c .before .before .before .if1 .left), ready-same _ _ _ _ (c .before .before .before .before .before .before .before .before .before .before .before .before .before .before .before .before .before .pre .1 .1) (c .before .before .before .before .before .before .before .before .enter .ensures .2), c .before .before .before .before .before .before .before .before .enter .ensures .3)))
+    -- same-length-3: known2; reaches2; walk-links; if1; known; reaches; enter
+    (λ c. c .before .before .before .before .walk-links .kept .1 .1 .1 .1 .0 ∙ c .before .before .before .before .before .before .before .before .before .before .before .before .before .enter .kept .1 .1 .1 .1 .0)
+    -- same-length-4: known2; reaches2; walk-links; if1; known; reaches; enter
+    (λ c. c .before .before .before .before .walk-links .kept .1 .1 .1 .1 .1 .0 ∙ c .before .before .before .before .before .before .before .before .before .before .before .before .before .enter .kept .1 .1 .1 .1 .1 .0)
+    -- returns-2: known2; reaches2; walk-links; if1; known; reaches; enter
+    (λ c. (entered-go _ _ _ _ _ _ (c .before .before .before .before .before .before .before .before .before .before .before .before .before .before .before .before .before .before .before .before .before .before .pre .1 .0) _ (c .before .before .before .before .before .before .before .before .before .before .before .before .before .enter .ensures .0) _ (c .before .before .before .before .before .before .before .before .before .before .before .before .before .enter .ensures .1) (c .before .before .before .before .before .before .before .before .before .before .before .before .before .enter .ensures .4) (c .before .before .before .before .before .before .before .before .if1 .left) _ (c .before .before .before .before .walk-links .ensures .0), entered-kept _ _ _ _ _ _ (c .before .before .before .before .before .before .before .before .before .before .before .before .before .before .before .before .before .before .before .before .before .before .pre .1 .0) _ (c .before .before .before .before .before .before .before .before .before .before .before .before .before .enter .ensures .0) _ (c .before .before .before .before .before .before .before .before .before .before .before .before .before .enter .ensures .1) (c .before .before .before .before .before .before .before .before .before .before .before .before .before .enter .ensures .4) (c .before .before .before .before .before .before .before .before .if1 .left) _ (c .before .before .before .before .walk-links .ensures .1), c .before .before .before .before .walk-links .ensures .2 ∙ c .before .before .before .before .before .before .before .before .before .before .before .before .before .enter .ensures .2, c .before .before .before .before .walk-links .ensures .3, c .before .before .before .before .walk-links .ensures .4 ∙ c .before .before .before .before .before .before .before .before .before .before .before .before .before .enter .ensures .4)))
