@@ -1,5 +1,6 @@
 //! Large files for measuring: ordinary ones, and ones that are costly for a careless reader.
 
+pub mod buckets;
 pub mod derivations;
 pub mod edges;
 pub mod walks;
@@ -14,6 +15,7 @@ const MOST_PROOF: u32 = 3_072;
 const MOST_DERIVATION: u32 = 200_000;
 const LETTERS: &[u8] = b"abcdefghijklmnopqrstuvwxyzABCDEFGHIJKLMNOPQRSTUVWXYZ0123456789_";
 
+#[derive(Clone)]
 pub struct Shape {
     pub name: String,
     pub kind: Second,
@@ -461,46 +463,6 @@ pub fn marked_names(kind: Second, most: u32) -> Shape {
     sheet.close(&format!("(c) {symbols} names of 10 marked letters"))
 }
 
-/// Constants whose names are made against the proved code's search by keys: every fourth character varies, so that one of a key's four
-/// numbers does, the last two of these not, and each such number has one remainder by 65,521. So all names share the
-/// bucket and the first 80 turns of the search.
-pub fn names_against_the_key(kind: Second, most: u32) -> Shape {
-    const BY: u64 = 65521;
-    let number = |letters: &[u8]| letters.iter().fold(0u64, |n, &c| n << 8 | u64::from(c));
-    let letters = &LETTERS[..52];
-    let pairs = || {
-        letters
-            .iter()
-            .flat_map(|&a| letters.iter().map(move |&b| [a, b]))
-    };
-    let mut first_of = vec![None; BY as usize];
-    for [a, b] in pairs() {
-        first_of[(number(&[a, b, 0, 0, 0, 0, 0, 0]) % BY) as usize] = Some([a, b]);
-    }
-    let word = |c: u8| u32::from_le_bytes([b'a', b'a', b'a', c]);
-    let mut sheet = Sheet::new(kind);
-    sheet.end_obligation();
-    let (given, end) = (sheet.given, sheet.end(1));
-    let last = sheet.w.name(b"aaaaaaaa");
-    let mut symbols = 0;
-    for [e, f] in pairs() {
-        let third = sheet.w.push(NAME, word(e), word(f), last);
-        for [c, d] in pairs() {
-            if symbols == most || !sheet.is_before(end - 4) {
-                return sheet.close(&format!("(c) {symbols} names made against the key"));
-            }
-            let rest = number(&[c, d, e, f, b'a', b'a']) % BY;
-            if let Some([a, b]) = first_of[((BY - rest) % BY) as usize] {
-                let second = sheet.w.push(NAME, word(c), word(d), third);
-                let first = sheet.w.push(NAME, word(a), word(b), second);
-                sheet.w.push(CONSTANT, given, first, 0);
-                symbols += 1;
-            }
-        }
-    }
-    unreachable!("the file ends")
-}
-
 /// Many distinct names, then the first one again.
 pub fn name_taken(kind: Second, most: u32) -> Shape {
     let mut sheet = Sheet::new(kind);
@@ -726,7 +688,9 @@ pub fn shapes(kind: Second, symbols: u32) -> Vec<Shape> {
     list.push(long_names(kind, symbols / 2));
     list.push(shared_tails(kind, symbols));
     list.push(marked_names(kind, symbols));
-    list.push(names_against_the_key(kind, symbols));
+    list.extend(
+        [false, true].map(|accented| buckets::names_in_one_bucket(kind, symbols, accented)),
+    );
     list.push(name_taken(kind, symbols));
     list.sort_by(|x, y| x.name.cmp(&y.name));
     list

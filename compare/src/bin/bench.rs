@@ -3,7 +3,7 @@
 //! translation and check of the derivation, of the accepted proofs. At most SYMBOLS symbols where names are measured; only
 //! shapes with NAME in their name.
 
-use compare::shapes::derivations::derivations;
+use compare::shapes::derivations::{derivations, whole_derivations};
 use compare::shapes::walks::walks;
 use compare::shapes::{shapes, Shape};
 use compare::threads::in_thread;
@@ -43,7 +43,8 @@ fn main() {
         }
     }
     println!("{CHECK_HEAD}");
-    for shape in kept(walks()).chain(kept(derivations())) {
+    let checked = [walks(), derivations(), whole_derivations()].concat();
+    for shape in kept(checked) {
         let times = in_thread(|| measure(&shape, check(shape.kind)));
         assert!(
             times.answer.is_accepted(),
@@ -89,7 +90,7 @@ const CHECK_HEAD: &str =
     "check                                                records  nodes   proved ms   second ms nodes a second  ratio";
 
 const TRANSLATION_HEAD: &str =
-    "translation                                            proof derivation    check ms translation ms derivation's check ms  bytes a byte";
+    "translation                                            proof derivation    check ms translation ms derivation's check ms    chain ms  bytes a byte";
 
 fn reading_row(shape: &Shape, times: &Times) -> String {
     let records = shape.records();
@@ -123,13 +124,14 @@ fn check_row(shape: &Shape, times: &Times) -> String {
 fn translation_row(shape: &Shape, translation: &Translation) -> String {
     let (proof, derivation) = (shape.second.len(), translation.bytes);
     format!(
-        "{:<52} {:>7} {:>10} {:>11.3} {:>14.3} {:>21.3} {:>13.1}",
+        "{:<52} {:>7} {:>10} {:>11.3} {:>14.3} {:>21.3} {:>11.3} {:>13.1}",
         shape.name,
         proof / 16,
         derivation / 16,
         milliseconds(translation.check),
         milliseconds(translation.time),
         milliseconds(translation.derivation_check),
+        milliseconds(translation.chain),
         derivation as f64 / proof as f64
     )
 }
@@ -163,6 +165,8 @@ struct Translation {
     check: Duration,
     time: Duration,
     derivation_check: Duration,
+    /// All three, one after the other.
+    chain: Duration,
     bytes: usize,
 }
 
@@ -188,6 +192,13 @@ fn measure_translation(shape: &Shape) -> Translation {
         derivation_check: accepted(&mut || {
             let (obligation, _) = files();
             desk::answer(Asked::CheckDerivation, obligation, black_box(&derivation))
+        }),
+        chain: accepted(&mut || {
+            let (obligation, proof) = files();
+            desk::answer(Asked::CheckProof, obligation, proof);
+            let (_, length) = desk::translate(obligation, proof, black_box(&mut buffer));
+            let derivation = &buffer[..length as usize];
+            desk::answer(Asked::CheckDerivation, obligation, black_box(derivation))
         }),
         bytes: derivation.len(),
     }

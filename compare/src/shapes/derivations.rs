@@ -4,11 +4,38 @@
 use super::{Shape, Sheet};
 use second::kinds::*;
 use second::reader::Second;
+use std::cell::Cell;
 
 const MOST_MEMBERS: u32 = 2_048;
 const MOST_DEPTH: u32 = 8_192;
 /// Nodes of a branch at most: the rest of the depth is for what is above and below it.
 const BRANCH: u32 = 8_150;
+
+/// Branches beside each other, at most: each is two nodes deeper than the one before.
+const MOST_BRANCHES: u32 = MOST_DEPTH - BRANCH - 4;
+/// Terms of their own for R9.
+const OWN_TERMS: usize = 4_000;
+/// Constants of their own for R7: three records each, and a link more.
+const OWN_CONSTANTS: usize = 10_000;
+/// Records for the members of their own above hostile steps.
+const FOR_MEMBERS: u32 = 200;
+
+/// How often a hostile step is repeated.
+#[derive(Clone, Copy)]
+enum Steps {
+    Some(u32),
+    /// Up to the file's end.
+    All,
+}
+
+impl std::fmt::Display for Steps {
+    fn fmt(&self, f: &mut std::fmt::Formatter) -> std::fmt::Result {
+        match self {
+            Steps::Some(count) => write!(f, "{count} times"),
+            Steps::All => write!(f, "whole"),
+        }
+    }
+}
 
 /// A derivation in the making, written from its leaves up.
 struct Maker {
@@ -111,26 +138,35 @@ impl Maker {
         root
     }
 
-    /// Branches of the same steps up to the file's end.
-    fn fill(mut self, name: &str, depth: u32, step: impl Fn(&mut Maker, u32) -> u32) -> Shape {
-        let bottom = self.sheet.bottom;
-        let branch = |maker: &mut Maker| maker.branch(depth, BRANCH, 0, &step);
-        let root = self.branches(bottom, MOST_DEPTH - BRANCH - 4, 0, branch);
-        self.close(name, root)
+    /// Branches of the same steps over one goal, as many as there is room for with so many records left over.
+    fn full(
+        &mut self,
+        goal: u32,
+        depth: u32,
+        spare: u32,
+        step: impl Fn(&mut Maker, u32) -> u32,
+    ) -> u32 {
+        let branch = |maker: &mut Maker| maker.branch(depth, BRANCH, spare, &step);
+        self.branches(goal, MOST_BRANCHES, spare, branch)
     }
 
-    /// One branch of so many steps.
-    fn once(
+    /// Steps over one goal, in one branch or up to the file's end.
+    fn steps(
         mut self,
         name: &str,
         goal: u32,
         depth: u32,
-        steps: u32,
+        steps: Steps,
         step: impl Fn(&mut Maker, u32) -> u32,
     ) -> Shape {
-        let branch = |maker: &mut Maker| maker.branch(depth, steps, 0, &step);
-        let root = self.branches(goal, 1, 0, branch);
-        self.close(&format!("{name}, {steps} times"), root)
+        let root = match steps {
+            Steps::Some(count) => {
+                let branch = |maker: &mut Maker| maker.branch(depth, count, 0, &step);
+                self.branches(goal, 1, 0, branch)
+            }
+            Steps::All => self.full(goal, depth, 0, step),
+        };
+        self.close(&format!("{name}, {steps}"), root)
     }
 
     fn close(self, name: &str, root: u32) -> Shape {
@@ -265,9 +301,12 @@ fn translated_terms() -> Shape {
 
 /// The deepest branches: BR2 that keeps ⊥.
 fn deep() -> Shape {
-    maker().fill("depth 8,192 by BR2", 1, |maker, root| {
+    let mut maker = maker();
+    let bottom = maker.sheet.bottom;
+    let root = maker.full(bottom, 1, 0, |maker, root| {
         maker.node(65, maker.bottom, &[root])
-    })
+    });
+    maker.close("depth 8,192 by BR2", root)
 }
 
 /// Members of their own, by BR4 above the root, the last one the first that is added.
@@ -323,19 +362,31 @@ fn deep_members() -> Shape {
 }
 
 /// BR2 so often, each keeping 2,048 members, all but one of them the last of those above.
-fn kept(nodes: u32) -> Shape {
+fn kept(steps: Steps) -> Shape {
     let mut maker = maker();
     let (bottom, other) = (maker.sheet.bottom, maker.numbered(1));
     let parts = [[bottom, other], [other, bottom]].map(|[often, once]| {
         let last = maker.push(LINK, once, 0, 0);
         (1..MOST_MEMBERS).fold(last, |next, _| maker.push(LINK, often, 0, next))
     });
-    let mut root = maker.leaf(66);
-    for number in 0..nodes {
-        root = maker.node(65, parts[number as usize % 2], &[root]);
-    }
+    // Each branch ends with BR3: a member more would be one too many.
+    let branch = |maker: &mut Maker, most: u32| {
+        let mut root = maker.leaf(66);
+        for at in 0..most {
+            if maker.has_room(FOR_MEMBERS) {
+                root = maker.node(65, parts[at as usize % 2], &[root]);
+            }
+        }
+        root
+    };
+    let root = match steps {
+        Steps::Some(count) => branch(&mut maker, count),
+        Steps::All => maker.branches(bottom, MOST_BRANCHES, FOR_MEMBERS, |maker| {
+            branch(maker, BRANCH)
+        }),
+    };
     let root = with_members(&mut maker, &[other], root);
-    maker.close(&format!("BR2 that keeps 2,048, {nodes} times"), root)
+    maker.close(&format!("BR2 that keeps 2,048, {steps}"), root)
 }
 
 /// A large formula of its own for each number, in some 8,000 records.
@@ -346,40 +397,71 @@ fn large(maker: &mut Maker, number: u32) -> u32 {
 }
 
 /// R8 and R7 up to ∀ and down again, so often, beside members that have half of the file's records.
-fn fresh(steps: u32) -> Shape {
+fn fresh(steps: Steps) -> Shape {
     let mut maker = maker();
     let (given, c, bottom) = (maker.sheet.given, maker.sheet.c, maker.sheet.bottom);
     let all = maker.push(ALL, given, bottom, 0);
     let [up, down] = [[all, c], [c, bottom]].map(|parts| maker.sheet.w.chain(&parts));
     let formulas: Vec<u32> = (0..12).map(|number| large(&mut maker, number)).collect();
-    let root = maker.branch(2, steps, 0, |maker, root| {
+    let step = |maker: &mut Maker, root: u32| {
+        let inner = maker.node(77, down, &[root]);
+        maker.node(78, up, &[inner])
+    };
+    let root = match steps {
+        Steps::Some(count) => maker.branch(2, count, 0, step),
+        Steps::All => maker.full(bottom, 2, FOR_MEMBERS, step),
+    };
+    let root = with_members(&mut maker, &formulas, root);
+    maker.close(
+        &format!("R7 beside 96,000 records of members, {steps}"),
+        root,
+    )
+}
+
+/// The same up to the file's end, each R7 with a constant of its own that is older than the members.
+fn fresh_each() -> Shape {
+    let mut maker = maker();
+    let (given, bottom) = (maker.sheet.given, maker.sheet.bottom);
+    let all = maker.push(ALL, given, bottom, 0);
+    let last = maker.push(LINK, bottom, 0, 0);
+    let parts: Vec<[u32; 2]> = (0..OWN_CONSTANTS)
+        .map(|_| {
+            let c = maker.sheet.constant(given);
+            let down = maker.push(LINK, c, 0, last);
+            [maker.sheet.w.chain(&[all, c]), down]
+        })
+        .collect();
+    let formulas: Vec<u32> = (0..12).map(|number| large(&mut maker, number)).collect();
+    let next = Cell::new(0);
+    let root = maker.full(bottom, 2, FOR_MEMBERS, |maker, root| {
+        let [up, down] = parts[next.replace(next.get() + 1) % parts.len()];
         let inner = maker.node(77, down, &[root]);
         maker.node(78, up, &[inner])
     });
     let root = with_members(&mut maker, &formulas, root);
     maker.close(
-        &format!("R7 beside 96,000 records of members, {steps} times"),
+        "R7 with constants of their own beside such members, whole",
         root,
     )
 }
 
 /// R9 with B, c=c, B(c) so often, over a goal B(c).
-fn equalities(mut maker: Maker, name: &str, [body, instance]: [u32; 2], steps: u32) -> Shape {
+fn equalities(mut maker: Maker, name: &str, [body, instance]: [u32; 2], steps: Steps) -> Shape {
     let c = maker.sheet.c;
     let same = maker.push(EQUAL, c, c, 0);
     let parts = maker.sheet.w.chain(&[body, same, instance]);
-    maker.once(name, instance, 1, steps, |maker, root| {
+    maker.steps(name, instance, 1, steps, |maker, root| {
         let equal = maker.leaf(80);
         maker.node(79, parts, &[equal, root])
     })
 }
 
 /// R8 and R7 up to ∀ and down again, so often, over a goal B(c).
-fn universals(mut maker: Maker, name: &str, [body, instance]: [u32; 2], steps: u32) -> Shape {
+fn universals(mut maker: Maker, name: &str, [body, instance]: [u32; 2], steps: Steps) -> Shape {
     let (given, c) = (maker.sheet.given, maker.sheet.c);
     let all = maker.push(ALL, given, body, 0);
     let [up, down] = [[all, c], [c, instance]].map(|parts| maker.sheet.w.chain(&parts));
-    maker.once(name, instance, 2, steps, |maker, root| {
+    maker.steps(name, instance, 2, steps, |maker, root| {
         let inner = maker.node(77, down, &[root]);
         maker.node(78, up, &[inner])
     })
@@ -422,11 +504,52 @@ fn nested_terms(maker: &mut Maker, term: u32) -> u32 {
     maker.push(EQUAL, applied, c, 0)
 }
 
+/// R9 from B(t) to B(f(t)), B nested in a function, up a chain of terms that B and all t share, in as many branches as there is room for: no two
+/// steps compare the same trees with the same term.
+fn own_terms() -> Shape {
+    let mut maker = maker();
+    let (f, given, c) = (maker.function, maker.sheet.given, maker.sheet.c);
+    let own = maker.sheet.w.chain(&[given]);
+    let apply = |maker: &mut Maker, term: u32| {
+        let arguments = maker.push(LINK, term, 0, 0);
+        maker.push(APPLICATION, f, own, arguments)
+    };
+    let x = maker.push(BOUND, 0, given, 0);
+    let nested = (0..OWN_TERMS).fold(x, |term, _| apply(&mut maker, term));
+    let body = maker.push(EQUAL, nested, c, 0);
+    let mut terms = vec![c];
+    for at in 0..2 * OWN_TERMS {
+        let next = apply(&mut maker, terms[at]);
+        terms.push(next);
+    }
+    let instances: Vec<u32> = (0..=OWN_TERMS)
+        .map(|at| maker.push(EQUAL, terms[OWN_TERMS + at], c, 0))
+        .collect();
+    let parts: Vec<u32> = (0..OWN_TERMS)
+        .map(|at| {
+            let equation = maker.push(EQUAL, terms[at], terms[at + 1], 0);
+            maker.sheet.w.chain(&[body, equation, instances[at]])
+        })
+        .collect();
+    let room = 10 * OWN_TERMS as u32;
+    let root = maker.branches(instances[OWN_TERMS], MOST_BRANCHES, room, |maker| {
+        let first = maker.anything();
+        parts.iter().fold(first, |root, &parts| {
+            let equal = maker.anything();
+            maker.node(79, parts, &[equal, root])
+        })
+    });
+    maker.close(
+        "R9 with terms of their own over a body nested in f, whole",
+        root,
+    )
+}
+
 fn heavy(
     name: &str,
-    nodes: fn(Maker, &str, [u32; 2], u32) -> Shape,
+    nodes: fn(Maker, &str, [u32; 2], Steps) -> Shape,
     grow: fn(&mut Maker, u32) -> u32,
-    steps: u32,
+    steps: Steps,
 ) -> Shape {
     let mut maker = maker();
     let bodies = grown(&mut maker, grow);
@@ -473,25 +596,50 @@ pub fn deepest_derivations() -> Vec<Shape> {
     ]
 }
 
+/// The hostile steps over heavy bodies.
+fn heavy_bodies(steps: Steps) -> Vec<Shape> {
+    vec![
+        heavy("R9 over a heavy shared body", equalities, doubled, steps),
+        heavy("R9 over a body nested in ¬", equalities, nested_not, steps),
+        heavy("R9 over a body nested in ∧", equalities, nested_and, steps),
+        heavy(
+            "R9 over a body nested in f",
+            equalities,
+            nested_terms,
+            steps,
+        ),
+        heavy("R8 over a heavy shared body", universals, doubled, steps),
+        heavy("R8 over a body nested in ¬", universals, nested_not, steps),
+    ]
+}
+
 /// All accepted derivations that are measured.
 pub fn derivations() -> Vec<Shape> {
-    vec![
+    let ordinary = vec![
         smallest(),
         translated(),
         translated_terms(),
         deep(),
         deep_members(),
         members(),
-        kept(100),
-        fresh(200),
-        heavy("R9 over a heavy shared body", equalities, doubled, 500),
-        heavy("R9 over a body nested in ¬", equalities, nested_not, 500),
-        heavy("R9 over a body nested in ∧", equalities, nested_and, 500),
-        heavy("R9 over a body nested in f", equalities, nested_terms, 500),
-        heavy("R8 over a heavy shared body", universals, doubled, 500),
-        heavy("R8 over a body nested in ¬", universals, nested_not, 500),
+        kept(Steps::Some(100)),
+        fresh(Steps::Some(200)),
+    ];
+    let deep = vec![
         deepest("¬", nested_not),
         deepest("∧", nested_and),
         deepest("f", nested_terms),
-    ]
+    ];
+    [ordinary, heavy_bodies(Steps::Some(500)), deep].concat()
+}
+
+/// The hostile ones again, each step repeated up to the file's end.
+pub fn whole_derivations() -> Vec<Shape> {
+    let others = vec![
+        kept(Steps::All),
+        fresh(Steps::All),
+        fresh_each(),
+        own_terms(),
+    ];
+    [others, heavy_bodies(Steps::All)].concat()
 }
