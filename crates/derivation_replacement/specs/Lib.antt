@@ -1,4 +1,5 @@
 pub mod Depth
 pub mod Last
+pub mod Paths
 pub mod Replaced
 pub mod Settled

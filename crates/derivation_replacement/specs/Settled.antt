@@ -12,7 +12,9 @@ use Rattle.reader.specs.Variables.{indicesBelow}
 use Rattle.derivation_trees.specs.Keys.{rank, decoded, Normal}
 use Rattle.derivation_trees.specs.Parts.{Part}
 use Rattle.derivation_known.specs.Known.{fits, Known, KnownFits}
+use Rattle.derivation_replacement.specs.declared.Left.{Left}
 use Rattle.derivation_replacement.specs.Replaced.{Tables, indexKey, open-positive, part-falls}
+use Rattle.derivation_replacement.specs.Paths.{Leaves}
 
 -- the tables, the keys of the instance, the term and the body, and a depth that does not wrap below it
 pub record Asking (rd : Reader) (keys reaches known : List ℕ) (x t j d : ℕ) : Type 0 where
@@ -59,3 +61,15 @@ module _ (rd : Reader) (keys reaches known after : List ℕ) (x t j d : ℕ) (as
     body = pz .stands .normal;
     room = part-falls rd (length keys) j d e z v pz p (asking .room) h .1;
   }
+
+-- The question after `follow`.
+pub asking-left : (rd : Reader) (keys reaches known : List ℕ) (x t j d : ℕ) (r : Left) → Asking rd keys reaches known x t j d → Leaves rd (length keys) x j d r →
+    Asking rd keys reaches known (r .whole) t (r .body) (r .depth)
+asking-left rd keys reaches known x t j d r asking left = record {
+  tables = asking .tables;
+  facts = asking .facts;
+  whole = left .whole;
+  term = asking .term;
+  body = left .body;
+  room = omega (arith, asking .room, left .room);
+}

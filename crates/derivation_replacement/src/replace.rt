@@ -1,6 +1,7 @@
 // Replacement: is a tree what another one is with index 0 replaced? All by keys; what has no index to replace is compared at once, and what was found before
 // is known. Of a tree's parts the one with the largest order is compared last, by the loop, so that the recursion is no deeper than 15, and a call more for each
 // 64 nodes that the loop takes.
+use crate::paths::follow;
 use derivation_closedness::closed;
 use derivation_known::facts;
 use derivation_trees::parts;
@@ -222,7 +223,7 @@ fn settled(
     }
 }
 
-// Is it, where that is not plain? The loop takes 64 nodes, and a call the rest, so that a later question comes to what is known within as many.
+// Is it, where that is not plain? The loop takes 64 nodes with more than one part to compare, each with the path below it, and a call the rest.
 fn fits_below(
     obligation: &[u8],
     second: &[u8],
@@ -250,9 +251,13 @@ fn fits_below(
         if !others_fit(obligation, second, m, keys, reaches, known, y, t, z, e, w) {
             return false;
         }
-        e = part_depth(obligation, second, m, keys, z, e, w);
-        y = parts::part_of(obligation, second, m, keys, y, w);
-        z = parts::part_of(obligation, second, m, keys, z, w);
+        let f = part_depth(obligation, second, m, keys, z, e, w);
+        let u = parts::part_of(obligation, second, m, keys, y, w);
+        let v = parts::part_of(obligation, second, m, keys, z, w);
+        let rest = follow(obligation, second, m, keys, reaches, u, v, f);
+        y = rest.whole;
+        z = rest.body;
+        e = rest.depth;
         let s = settled(obligation, second, m, keys, reaches, known, y, t, z, e);
         if s != 2 {
             return s == 1;

@@ -8,7 +8,7 @@ use Rattle.reader.specs.Words.{word}
 use Rattle.derivation_trees.specs.Keys.{rank}
 use Rattle.derivation_known.specs.Known.{fits}
 use Rattle.derivation_replacement.specs.Replaced.{fits-heads, fits-others, fits-next, fits-part-is, others-first, others-second, depth-room}
-use Rattle.derivation_replacement.specs.Settled.{Asking, Open, open-some, asking-after, asking-part}
+use Rattle.derivation_replacement.specs.Settled.{Asking, Open, open-some, asking-after, asking-part, asking-left}
 use borrow.Fn.Kinds.{In}
 use borrow.Fn.PlainCycle.{Measures, is, falls, and}
 use Rattle.derivation_replacement.proofs.replace.fits_at.Reads as fits-at
@@ -24,6 +24,7 @@ use Rattle.derivation_replacement.proofs.replace.others_fit.Reads as ot
 use Rattle.derivation_replacement.proofs.replace.others_fit.Kinds as others-fit-kinds
 use Rattle.derivation_replacement.proofs.replace.+fits_at+fits_below+fits_part+others_fit.Lts-others_fit as others-fit-lts
 use Rattle.derivation_known.proofs.facts.keep_fits.Reads as keep-fits-reads
+use Rattle.derivation_replacement.proofs.paths.follow.Reads as follow-reads
 use Rattle.derivation_replacement.proofs.replace.first_other.Reads as first-other-reads
 use Rattle.derivation_replacement.proofs.replace.heads_fit.Reads as heads-fit-reads
 use Rattle.derivation_replacement.proofs.replace.last_part.Reads as last-part-reads
@@ -91,7 +92,7 @@ abbrev fits-at-calls : ℕ → fits-at-lts.Claims
 fits-at-calls t = (settled-reads.Asked, settled-reads.Learnt, fits-below-below t, fits-below.Post, keep-fits-reads.Asked, keep-fits-reads.Learnt)
 
 abbrev fits-below-calls : ℕ → fits-below-lts.Claims
-fits-below-calls t = (heads-fit-reads.Asked, heads-fit-reads.Learnt, last-part-reads.Asked, last-part-reads.Learnt, others-fit-below t, others-fit.Post, part-depth-reads.Asked, part-depth-reads.Learnt, part-of-reads.Asked, part-of-reads.Learnt, settled-reads.Asked, settled-reads.Learnt, fits-at-below t, fits-at.Post)
+fits-below-calls t = (heads-fit-reads.Asked, heads-fit-reads.Learnt, last-part-reads.Asked, last-part-reads.Learnt, others-fit-below t, others-fit.Post, part-depth-reads.Asked, part-depth-reads.Learnt, part-of-reads.Asked, part-of-reads.Learnt, follow-reads.Asked, follow-reads.Learnt, settled-reads.Asked, settled-reads.Learnt, fits-at-below t, fits-at.Post)
 
 abbrev fits-part-calls : ℕ → fits-part-lts.Claims
 fits-part-calls t = (part-depth-reads.Asked, part-depth-reads.Learnt, part-of-reads.Asked, part-of-reads.Learnt, fits-at-below t, fits-at.Post)
@@ -143,18 +144,20 @@ pub +fits-at+fits-below+fits-part+others-fit-spec : {M : Type 1} → statement M
     (λ c κs. let l = c .before .before .before .before .before .before .before .before .before .before .loop .inv in let w = c .before .before .before .before .before .before .last-part .ensures in (l .0 .tables .table, l .0 .whole, w .1, w .2))
     -- part-of-requires-2: part-of; part-depth; if2; known; others-fit; last-part; if1; heads-fit; loop-test; loop
     (λ c κs. let l = c .before .before .before .before .before .before .before .before .before .before .before .loop .inv in let w = c .before .before .before .before .before .before .before .last-part .ensures in (l .0 .tables .table, l .0 .body, w .1, w .2))
-    -- settled-requires: part-of2; part-of; part-depth; if2; known; others-fit; last-part; if1; heads-fit; loop-test; loop
-    (λ c κs. let l = c .before .before .before .before .before .before .before .before .before .before .before .before .before .loop .inv in let some = open-some _ _ _ (l .1) in asking-part _ _ _ _ _ _ _ _ _ (l .0) (c .before .before .before .before .before .before .before .others-fit .ensures .1) _ _ _ _ _ some (c .before .before .before .part-depth .ensures .1) (c .before .before .part-of .ensures) (c .before .part-of2 .ensures))
-    -- same-length-3: if3; settled; part-of2; part-of; part-depth; if2; known; others-fit; last-part; if1; heads-fit; loop-test; loop
-    (λ c. c .before .before .before .before .before .before .before .before .before .others-fit .kept .1 .1 .1 .1 .1 .0 ∙ c .before .before .before .before .before .before .before .before .before .before .before .before .before .before .before .loop .inv .5)
-    -- returns-3: if3; settled; part-of2; part-of; part-depth; if2; known; others-fit; last-part; if1; heads-fit; loop-test; loop
-    (λ c. let l = c .before .before .before .before .before .before .before .before .before .before .before .before .before .before .before .loop .inv in let w = c .before .before .before .before .before .before .before .before .before .before .before .last-part .ensures in (c .before .settled .ensures .plain (c .if3 .taken) ∙ sym (l .2 ∙ fits-next _ _ _ _ _ _ (l .0 .whole) (l .0 .body) _ (l .1 .some) refl _ (l .1 .other) refl _ (c .before .before .before .before .before .before .before .before .before .before .before .before .before .heads-fit .ensures) (c .before .before .before .before .before .before .before .before .before .before .before .before .if1 .left) _ (w .1) (w .2) _ (c .before .before .before .before .before .before .before .before .before .others-fit .ensures .0) (c .before .before .before .before .before .before .if2 .left) _ _ _ (c .before .before .before .before .before .part-depth .ensures .0) (c .before .before .before .before .part-of .ensures) (c .before .before .before .part-of2 .ensures)), c .before .before .before .before .before .before .before .before .before .others-fit .ensures .1))
-    -- sub-left: if3; settled; part-of2; part-of; part-depth; if2; known; others-fit; last-part; if1; heads-fit; loop-test; loop
-    (λ c. omega (arith, c .before .before .before .before .before .before .before .before .before .before .before .before .before .before .loop-test .taken))
-    -- loop-less: if3; settled; part-of2; part-of; part-depth; if2; known; others-fit; last-part; if1; heads-fit; loop-test; loop
-    (λ c. omega (arith, c .before .before .before .before .before .before .before .before .before .before .before .before .before .before .loop-test .taken))
-    -- loop-again: if3; settled; part-of2; part-of; part-depth; if2; known; others-fit; last-part; if1; heads-fit; loop-test; loop
-    (λ c. let l = c .before .before .before .before .before .before .before .before .before .before .before .before .before .before .before .loop .inv in let w = c .before .before .before .before .before .before .before .before .before .before .before .last-part .ensures in let some = open-some _ _ _ (l .1) in let f = c .before .before .before .part-of2 .ensures .falls some in (asking-part _ _ _ _ _ _ _ _ _ (l .0) (c .before .before .before .before .before .before .before .before .before .others-fit .ensures .1) _ _ _ _ _ some (c .before .before .before .before .before .part-depth .ensures .1) (c .before .before .before .before .part-of .ensures) (c .before .before .before .part-of2 .ensures), c .before .settled .ensures .parts (c .if3 .left), l .2 ∙ fits-next _ _ _ _ _ _ (l .0 .whole) (l .0 .body) _ (l .1 .some) refl _ (l .1 .other) refl _ (c .before .before .before .before .before .before .before .before .before .before .before .before .before .heads-fit .ensures) (c .before .before .before .before .before .before .before .before .before .before .before .before .if1 .left) _ (w .1) (w .2) _ (c .before .before .before .before .before .before .before .before .before .others-fit .ensures .0) (c .before .before .before .before .before .before .if2 .left) _ _ _ (c .before .before .before .before .before .part-depth .ensures .0) (c .before .before .before .before .part-of .ensures) (c .before .before .before .part-of2 .ensures), omega (arith, f, l .3, c .before .before .before .before .before .before .before .before .before .before .before .before .before .before .loop-test .taken), omega (arith, l .4), c .before .before .before .before .before .before .before .before .before .others-fit .kept .1 .1 .1 .1 .1 .0 ∙ c .before .before .before .before .before .before .before .before .before .before .before .before .before .before .before .loop .inv .5))
+    -- follow-requires: part-of2; part-of; part-depth; if2; known; others-fit; last-part; if1; heads-fit; loop-test; loop
+    (λ c κs. let l = c .before .before .before .before .before .before .before .before .before .before .before .before .loop .inv in let some = open-some _ _ _ (l .1) in let a = asking-part _ _ _ _ _ _ _ _ _ (l .0) (c .before .before .before .before .before .before .others-fit .ensures .1) _ _ _ _ _ some (c .before .before .part-depth .ensures .1) (c .before .part-of .ensures) (c .part-of2 .ensures) in (a .tables, a .whole, a .body, a .room))
+    -- settled-requires: follow; part-of2; part-of; part-depth; if2; known; others-fit; last-part; if1; heads-fit; loop-test; loop
+    (λ c κs. let l = c .before .before .before .before .before .before .before .before .before .before .before .before .before .before .loop .inv in let some = open-some _ _ _ (l .1) in asking-left _ _ _ _ _ _ _ _ _ (asking-part _ _ _ _ _ _ _ _ _ (l .0) (c .before .before .before .before .before .before .before .before .others-fit .ensures .1) _ _ _ _ _ some (c .before .before .before .before .part-depth .ensures .1) (c .before .before .before .part-of .ensures) (c .before .before .part-of2 .ensures)) (c .before .follow .ensures))
+    -- same-length-3: if3; settled; follow; part-of2; part-of; part-depth; if2; known; others-fit; last-part; if1; heads-fit; loop-test; loop
+    (λ c. c .before .before .before .before .before .before .before .before .before .before .others-fit .kept .1 .1 .1 .1 .1 .0 ∙ c .before .before .before .before .before .before .before .before .before .before .before .before .before .before .before .before .loop .inv .5)
+    -- returns-3: if3; settled; follow; part-of2; part-of; part-depth; if2; known; others-fit; last-part; if1; heads-fit; loop-test; loop
+    (λ c. let l = c .before .before .before .before .before .before .before .before .before .before .before .before .before .before .before .before .loop .inv in let w = c .before .before .before .before .before .before .before .before .before .before .before .before .last-part .ensures in (c .before .settled .ensures .plain (c .if3 .taken) ∙ sym (l .2 ∙ fits-next _ _ _ _ _ _ (l .0 .whole) (l .0 .body) _ (l .1 .some) refl _ (l .1 .other) refl _ (c .before .before .before .before .before .before .before .before .before .before .before .before .before .before .heads-fit .ensures) (c .before .before .before .before .before .before .before .before .before .before .before .before .before .if1 .left) _ (w .1) (w .2) _ (c .before .before .before .before .before .before .before .before .before .before .others-fit .ensures .0) (c .before .before .before .before .before .before .before .if2 .left) _ _ _ (c .before .before .before .before .before .before .part-depth .ensures .0) (c .before .before .before .before .before .part-of .ensures) (c .before .before .before .before .part-of2 .ensures) ∙ c .before .before .before .follow .ensures .asked _), c .before .before .before .before .before .before .before .before .before .before .others-fit .ensures .1))
+    -- sub-left: if3; settled; follow; part-of2; part-of; part-depth; if2; known; others-fit; last-part; if1; heads-fit; loop-test; loop
+    (λ c. omega (arith, c .before .before .before .before .before .before .before .before .before .before .before .before .before .before .before .loop-test .taken))
+    -- loop-less: if3; settled; follow; part-of2; part-of; part-depth; if2; known; others-fit; last-part; if1; heads-fit; loop-test; loop
+    (λ c. omega (arith, c .before .before .before .before .before .before .before .before .before .before .before .before .before .before .before .loop-test .taken))
+    -- loop-again: if3; settled; follow; part-of2; part-of; part-depth; if2; known; others-fit; last-part; if1; heads-fit; loop-test; loop
+    (λ c. let l = c .before .before .before .before .before .before .before .before .before .before .before .before .before .before .before .before .loop .inv in let w = c .before .before .before .before .before .before .before .before .before .before .before .before .last-part .ensures in let some = open-some _ _ _ (l .1) in let g = c .before .before .before .follow .ensures in let f = c .before .before .before .before .part-of2 .ensures .falls some in (asking-left _ _ _ _ _ _ _ _ _ (asking-part _ _ _ _ _ _ _ _ _ (l .0) (c .before .before .before .before .before .before .before .before .before .before .others-fit .ensures .1) _ _ _ _ _ some (c .before .before .before .before .before .before .part-depth .ensures .1) (c .before .before .before .before .before .part-of .ensures) (c .before .before .before .before .part-of2 .ensures)) g, c .before .settled .ensures .parts (c .if3 .left), l .2 ∙ fits-next _ _ _ _ _ _ (l .0 .whole) (l .0 .body) _ (l .1 .some) refl _ (l .1 .other) refl _ (c .before .before .before .before .before .before .before .before .before .before .before .before .before .before .heads-fit .ensures) (c .before .before .before .before .before .before .before .before .before .before .before .before .before .if1 .left) _ (w .1) (w .2) _ (c .before .before .before .before .before .before .before .before .before .before .others-fit .ensures .0) (c .before .before .before .before .before .before .before .if2 .left) _ _ _ (c .before .before .before .before .before .before .part-depth .ensures .0) (c .before .before .before .before .before .part-of .ensures) (c .before .before .before .before .part-of2 .ensures) ∙ g .asked _, omega (arith, f, g .low, l .3, c .before .before .before .before .before .before .before .before .before .before .before .before .before .before .before .loop-test .taken), omega (arith, l .4), c .before .before .before .before .before .before .before .before .before .before .others-fit .kept .1 .1 .1 .1 .1 .0 ∙ c .before .before .before .before .before .before .before .before .before .before .before .before .before .before .before .before .loop .inv .5))
     -- fits-at-requires: loop-test; loop
     (λ c κs. let l = c .before .before .loop .inv in let p = c .before .before .before .before .before .before .before .before .pre in (omega (arith, p .0, l .3, c .before .loop-test .left), l .0))
     -- same-length-4: known2; fits-at; loop-test; loop
