@@ -1,6 +1,7 @@
 // Refusal 15: letters that stand for one thing are equal, replacement, closedness.
 use derivation_closedness::closed;
 use derivation_forms::forms;
+use derivation_frames::links;
 use derivation_replacement::replace;
 use derivation_tables::tables;
 use derivation_trees::keys;
@@ -33,12 +34,12 @@ fn are_closed(
 {
     let mut l = c;
     while l != 0 {
-        let item = trees::lower_at(obligation, second, m, l, 1);
-        let x = keys::key_of(obligation, second, m, keys, item);
+        let link = links::link_at(obligation, second, m, l);
+        let x = keys::key_of(obligation, second, m, keys, link.item);
         if !closed::is_below(obligation, second, m, keys, reaches, x, 0) {
             return false;
         }
-        l = trees::lower_at(obligation, second, m, l, 3);
+        l = link.next;
     }
     true
 }

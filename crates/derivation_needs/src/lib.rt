@@ -1,2 +1,3 @@
 // What a rule needs in the sequent: refusal 14.
 pub mod needs;
+mod order;

@@ -99,9 +99,10 @@ module _ (rd : Reader) (h n k : ℕ) (ek : k ≡ rd n 0) where
   unfolding bareParts parts items
   parts-length = length-map (items rd (lower rd n 1)) (bareTree rd) ∙ length-map (linked rd (lower rd n 1)) (λ l. lower rd l 1)
 
-  pub room-parts : k ≡ 65 → (c : ℕ) (r : Bool) → c ≡ lower rd n 1 → r ≡ leb (length (linked rd c)) 2048 → r ≡ nodeRoom rd h n
+  pub room-parts : k ≡ 65 → (c count : ℕ) → c ≡ lower rd n 1 → count ≡ length (linked rd c) → leb count 2048 ≡ nodeRoom rd h n
   unfolding nodeRoom
-  room-parts q c r ec e = rw (← ek) (eq-yes k 65 _ _ r q (e ∙ ap (λ (i : ℕ). leb i 2048) (ap (λ (l : ℕ). length (linked rd l)) ec ∙ sym parts-length)))
+  room-parts q c count ec e =
+      rw (← ek) (eq-yes k 65 _ _ (leb count 2048) q (ap (λ (i : ℕ). leb i 2048) (e ∙ ap (λ (l : ℕ). length (linked rd l)) ec ∙ sym parts-length)))
 
   module _ (other : k ≡ 65 → ⊥) (byte count : ℕ) (eb : byte ≡ derivationByte k) (ec : count ≡ premisesOf byte) where
     pub room-none : count ≡ 0 → true ≡ nodeRoom rd h n

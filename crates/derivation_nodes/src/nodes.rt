@@ -1,4 +1,5 @@
 // The refusal of a node at its depth: 13 to 18, the lower number first.
+use crate::push::chain_length;
 use derivation_fits::fits;
 use derivation_forms::formed;
 use derivation_forms::premises;
@@ -7,7 +8,6 @@ use derivation_frames::links;
 use derivation_fresh::fresh;
 use derivation_needs::needs;
 use derivation_tables::tables;
-use reader::chains;
 use reader::trees;
 use reader::words;
 ghost use mathlib.Core.Path.{_≡_};
@@ -101,7 +101,7 @@ fn room_beside(obligation: &[u8], second: &[u8], m: usize, h: usize, n: usize) -
     let k = words::word_at(obligation, second, m, n, 0);
     if k == 65 {
         let c = trees::lower_at(obligation, second, m, n, 1);
-        return chains::at_most(obligation, second, m, c, 2048);
+        return chain_length(obligation, second, m, c) <= 2048;
     }
     let count = reader_bytes::premises_of(derivation_bytes::derivation_byte(k));
     if count == 0 {

@@ -3,7 +3,6 @@ use derivation_forms::forms;
 use derivation_frames::frames;
 use derivation_frames::links;
 use derivation_tables::tables;
-use reader::trees;
 ghost use mathlib.Core.Path.{_≡_};
 ghost use Prim.Native.Nat.{_<_};
 ghost use lib.ListN.{length};
@@ -22,7 +21,7 @@ pub fn chain_length(obligation: &[u8], second: &[u8], m: usize, c: usize) -> usi
     let mut count = 0;
     while l != 0 {
         count += 1;
-        l = trees::lower_at(obligation, second, m, l, 3);
+        l = links::link_at(obligation, second, m, l).next;
     }
     count
 }

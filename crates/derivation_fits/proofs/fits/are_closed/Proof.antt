@@ -21,19 +21,17 @@ are-closed-spec = tie.close (tie.spec
     Inv-loop μ-loop
     -- loop-holds: 4 args
     (λ c. (search needs, refl))
-    -- lower-at-requires: loop-test; 1 loop; 6 args
+    -- link-at-requires: loop-test; 1 loop; 6 args
     (λ c κs. search needs)
-    -- key-of-requires: lower-at; 1 loop-test; 2 loop; 7 args
+    -- key-of-requires: link-at; 1 loop-test; 2 loop; 7 args
     (λ c κs. (search needs, search item-in))
-    -- is-below-requires: key-of; 1 lower-at; 2 loop-test; 3 loop; 8 args
+    -- is-below-requires: key-of; 1 link-at; 2 loop-test; 3 loop; 8 args
     (λ c κs. (search key-normal, search needs, search needs))
-    -- returns: if1; 1 is-below; 2 key-of; 3 lower-at; 4 loop-test; 5 loop; 10 args
+    -- returns: if1; 1 is-below; 2 key-of; 3 link-at; 4 loop-test; 5 loop; 10 args
     (λ c. search (chain-stop, closed-key))
-    -- lower-at-requires-2: if1; 1 is-below; 2 key-of; 3 lower-at; 4 loop-test; 5 loop; 10 args
-    (λ c κs. search needs)
-    -- loop-less: lower-at2; 1 if1; 2 is-below; 3 key-of; 4 lower-at; 5 loop-test; 6 loop; 11 args
+    -- loop-less: if1; 1 is-below; 2 key-of; 3 link-at; 4 loop-test; 5 loop; 10 args
     (λ c. search rest-falls)
-    -- loop-again: lower-at2; 1 if1; 2 is-below; 3 key-of; 4 lower-at; 5 loop-test; 6 loop; 11 args
+    -- loop-again: if1; 1 is-below; 2 key-of; 3 link-at; 4 loop-test; 5 loop; 10 args
     (λ c. (search rest-in, search (chain-more, closed-key)))
     -- returns-2: loop-test; 1 loop; 6 args
     (λ c. search chain-end))

@@ -11,9 +11,9 @@ room-beside-spec = tie.close (tie.spec
     (λ c κs. search needs)
     -- lower-at-requires: if1; 1 word-at; 4 args
     (λ c κs. search needs)
-    -- at-most-requires: lower-at; 1 if1; 2 word-at; 5 args
+    -- chain-length-requires: lower-at; 1 if1; 2 word-at; 5 args
     (λ c κs. search needs)
-    -- returns: at-most; 1 lower-at; 2 if1; 3 word-at; 6 args
+    -- returns: chain-length; 1 lower-at; 2 if1; 3 word-at; 6 args
     (λ c. search room-parts)
     -- derivation-byte-requires: if1; 1 word-at; 4 args
     (λ c κs. search needs)

@@ -23,11 +23,11 @@ chain-length-spec = tie.close (tie.spec
     (λ c. (omega arith, omega arith))
     -- add-count: loop-test; 1 loop; 4 args
     (λ c. omega arith)
-    -- lower-at-requires: loop-test; 1 loop; 4 args
+    -- link-at-requires: loop-test; 1 loop; 4 args
     (λ c κs. search needs)
-    -- loop-less: lower-at; 1 loop-test; 2 loop; 5 args
+    -- loop-less: link-at; 1 loop-test; 2 loop; 5 args
     (λ c. search rest-falls)
-    -- loop-again: lower-at; 1 loop-test; 2 loop; 5 args
+    -- loop-again: link-at; 1 loop-test; 2 loop; 5 args
     (λ c. (search length-low, search length-turn))
     -- returns: loop-test; 1 loop; 4 args
     (λ c. search length-end))
