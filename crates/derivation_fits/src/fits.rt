@@ -15,7 +15,7 @@ ghost use Rattle.reader.specs.Tests.{every};
 ghost use Rattle.derivation_rules.specs.Erase.{bareParts};
 ghost use Rattle.derivation_trees.specs.Keys.{decoded};
 ghost use Rattle.derivation_known.specs.Known.{Known};
-ghost use Rattle.derivation_replacement.specs.Replaced.{Tables};
+ghost use Rattle.derivation_paths.specs.Tables.{Tables};
 ghost use Rattle.derivation_frames.specs.Frames.{chainTrees};
 ghost use Rattle.derivation_forms.specs.Forms.{Given};
 ghost use Rattle.derivation_fits.specs.Fits.{isClosed, equalForms, replacedForms, equalityFits, lettersFit, nodeFits};

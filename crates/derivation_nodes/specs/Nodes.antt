@@ -16,7 +16,7 @@ use Rattle.derivation_rules.specs.Check.{depthFits, rowFault, rowOf, nodeFault}
 use Rattle.reader.specs.Members.{premisesFit}
 use Rattle.derivation_trees.specs.Keys.{decoded}
 use Rattle.derivation_closedness.specs.Reaches.{Unmarked}
-use Rattle.derivation_replacement.specs.Replaced.{Tables}
+use Rattle.derivation_paths.specs.Tables.{Tables}
 use Rattle.derivation_rules.specs.RowLaws.{by-rule}
 use Rattle.derivation_frames.specs.Frames.{goalAt, countAt, membersAt, stateOf, Framed}
 use Rattle.reader_bytes.specs.Bytes.{premisesOf}

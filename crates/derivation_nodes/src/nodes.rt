@@ -18,7 +18,7 @@ ghost use Rattle.reader.specs.Trees.{lower};
 ghost use Rattle.derivation_bytes.specs.Bytes.{derivationByte};
 ghost use Rattle.derivation_trees.specs.Keys.{decoded};
 ghost use Rattle.derivation_known.specs.Known.{Known};
-ghost use Rattle.derivation_replacement.specs.Replaced.{Tables};
+ghost use Rattle.derivation_paths.specs.Tables.{Tables};
 ghost use Rattle.derivation_rules.specs.Check.{nodeFault};
 ghost use Rattle.derivation_frames.specs.Frames.{goalAt, membersAt, stateOf};
 ghost use Rattle.derivation_members.specs.Needs.{At};

@@ -15,7 +15,7 @@ use Rattle.derivation_trees.specs.Keys.{negationsOf, bodyOf, bodyTree, negate, 
 use Rattle.derivation_trees.specs.Erased.{Plain, bare-plain}
 use Rattle.derivation_trees.specs.Parts.{Part, partOf, as-none, body-in}
 use Rattle.derivation_closedness.specs.Orders.{order, order-some, order-single, order-not}
-use Rattle.derivation_replacement.specs.Replaced.{Tables}
+use Rattle.derivation_paths.specs.Tables.{Tables}
 
 -- which of three orders is the largest, the first such one
 unfoldable pub largest : ℕ → ℕ → ℕ → ℕ

@@ -15,16 +15,9 @@ use Rattle.reader.specs.Variables.{binders, isIndex, indicesBelow, replaced}
 use Rattle.reader_closedness.specs.Reach.{replaced-node, replaced-closed}
 use Rattle.derivation_trees.specs.Keys.{negationsOf, bodyOf, rank, decoded, Normal, key-one, key-same}
 use Rattle.derivation_trees.specs.Makers.{stands-none}
-use Rattle.derivation_trees.specs.Table.{Table}
 use Rattle.derivation_trees.specs.Parts.{Part, partOf, as-none}
-use Rattle.derivation_closedness.specs.Reaches.{Reached}
 use Rattle.derivation_known.specs.Known.{fits}
-
--- the tables that the test reads
-pub record Tables (rd : Reader) (keys reaches : List ℕ) : Type 0 where
-  pub table : Table rd keys
-  pub room : length keys ≤ length reaches
-  pub reached : Reached rd reaches (length reaches)
+use Rattle.derivation_paths.specs.Tables.{Tables}
 
 -- `fits` for part w of each tree, where the index stands deeper below a binder
 unfoldable pub partDepth : Reader → ℕ → ℕ → ℕ → ℕ
@@ -244,11 +237,6 @@ module _ (rd : Reader) (x t j d w u v : ℕ) (eu : u ≡ firstOther w) (ev : v �
   pub others-second : not a ≡ false → (c : Bool) → c ≡ fitsPart rd x t j d v → c ≡ othersFit rd x t j d w
   unfolding othersFit both
   others-second h c ec = rw (← eu, ← ev, ← ea, not-false a h) ec
-
--- a depth below a key that is not 0 does not wrap
-pub depth-room : (j d : ℕ) → 0 < j → d + rank j < 18446744073709551616 → d < 18446744073709551615
-unfolding rank negationsOf bodyOf
-depth-room j d p h = omega arith
 
 -- The ways out of `is_replaced`.
 pub rank-small : (j : ℕ) → j < 18446744073709551616 → 0 + rank j < 18446744073709551616

@@ -12,9 +12,10 @@ use Rattle.reader.specs.Variables.{indicesBelow}
 use Rattle.derivation_trees.specs.Keys.{rank, decoded, Normal}
 use Rattle.derivation_trees.specs.Parts.{Part}
 use Rattle.derivation_known.specs.Known.{fits, Known, KnownFits}
-use Rattle.derivation_replacement.specs.declared.Left.{Left}
-use Rattle.derivation_replacement.specs.Replaced.{Tables, indexKey, open-positive, part-falls}
-use Rattle.derivation_replacement.specs.Paths.{Leaves}
+use Rattle.derivation_paths.specs.declared.Left.{Left}
+use Rattle.derivation_paths.specs.Paths.{Leaves}
+use Rattle.derivation_paths.specs.Tables.{Tables}
+use Rattle.derivation_replacement.specs.Replaced.{indexKey, open-positive, part-falls}
 
 -- the tables, the keys of the instance, the term and the body, and a depth that does not wrap below it
 pub record Asking (rd : Reader) (keys reaches known : List ℕ) (x t j d : ℕ) : Type 0 where

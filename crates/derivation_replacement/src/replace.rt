@@ -1,9 +1,9 @@
 // Replacement: is a tree what another one is with index 0 replaced? All by keys; what has no index to replace is compared at once, and what was found before
 // is known. Of a tree's parts the one with the largest order is compared last, by the loop, so that the recursion is no deeper than 15, and a call more for each
 // 64 nodes that the loop takes.
-use crate::paths::follow;
 use derivation_closedness::closed;
 use derivation_known::facts;
+use derivation_paths::paths::follow;
 use derivation_trees::parts;
 ghost use mathlib.Core.Path.{_≡_};
 ghost use Prim.Native.Nat.{_+_, _<_, _≤_};
@@ -16,7 +16,8 @@ ghost use Rattle.derivation_trees.specs.Keys.{rank, decoded, Normal};
 ghost use Rattle.derivation_known.specs.Known.{fits, Known};
 ghost use Rattle.derivation_replacement.specs.Settled.{Asking, Open, Settled};
 ghost use Rattle.derivation_replacement.specs.Last.{largest, orderIn, lastPart};
-ghost use Rattle.derivation_replacement.specs.Replaced.{Tables, fitsPart, firstOther, secondOther, othersFit, indexKey, sameHeads, headsFit, partDepth};
+ghost use Rattle.derivation_paths.specs.Tables.{Tables};
+ghost use Rattle.derivation_replacement.specs.Replaced.{fitsPart, firstOther, secondOther, othersFit, indexKey, sameHeads, headsFit, partDepth};
 
 // Is the tree of key j the bound variable with index d?
 fn is_index(obligation: &[u8], second: &[u8], m: usize, keys: &[usize], j: usize, d: usize) -> bool

@@ -7,7 +7,8 @@ use borrow.Author.Tests.{not-true, not-false}
 use Rattle.reader.specs.Words.{word}
 use Rattle.derivation_trees.specs.Keys.{rank}
 use Rattle.derivation_known.specs.Known.{fits}
-use Rattle.derivation_replacement.specs.Replaced.{fits-heads, fits-others, fits-next, fits-part-is, others-first, others-second, depth-room}
+use Rattle.derivation_paths.specs.Paths.{depth-room}
+use Rattle.derivation_replacement.specs.Replaced.{fits-heads, fits-others, fits-next, fits-part-is, others-first, others-second}
 use Rattle.derivation_replacement.specs.Settled.{Asking, Open, open-some, asking-after, asking-part, asking-left}
 use borrow.Fn.Kinds.{In}
 use borrow.Fn.PlainCycle.{Measures, is, falls, and}
@@ -24,7 +25,7 @@ use Rattle.derivation_replacement.proofs.replace.others_fit.Reads as ot
 use Rattle.derivation_replacement.proofs.replace.others_fit.Kinds as others-fit-kinds
 use Rattle.derivation_replacement.proofs.replace.+fits_at+fits_below+fits_part+others_fit.Lts-others_fit as others-fit-lts
 use Rattle.derivation_known.proofs.facts.keep_fits.Reads as keep-fits-reads
-use Rattle.derivation_replacement.proofs.paths.follow.Reads as follow-reads
+use Rattle.derivation_paths.proofs.paths.follow.Reads as follow-reads
 use Rattle.derivation_replacement.proofs.replace.first_other.Reads as first-other-reads
 use Rattle.derivation_replacement.proofs.replace.heads_fit.Reads as heads-fit-reads
 use Rattle.derivation_replacement.proofs.replace.last_part.Reads as last-part-reads

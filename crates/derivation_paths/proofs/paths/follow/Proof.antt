@@ -2,9 +2,9 @@ use native.Mathlib.Omega.{arith}
 use lib.ListN.{length}
 use Rattle.reader.specs.Words.{word}
 use Rattle.derivation_trees.specs.Keys.{rank}
-use Rattle.derivation_replacement.specs.Paths.{Leaves, leaves-all, leaves-more}
-use Rattle.derivation_replacement.proofs.paths.follow.Statement.{statement}
-use Rattle.derivation_replacement.proofs.paths.follow.Tie as tie
+use Rattle.derivation_paths.specs.Paths.{Leaves, leaves-all, leaves-more}
+use Rattle.derivation_paths.proofs.paths.follow.Statement.{statement}
+use Rattle.derivation_paths.proofs.paths.follow.Tie as tie
 
 abbrev Inv-loop : tie.InvT-loop
 Inv-loop obligation second m keys reaches x j d y₀ z₀ e₀ y z e = Leaves (word obligation second m) (length keys) x j d (record { whole = y; body = z; depth = e })

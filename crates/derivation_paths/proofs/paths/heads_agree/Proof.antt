@@ -1,7 +1,7 @@
 use borrow.Author.Needs.{needs}
-use Rattle.derivation_replacement.specs.Paths.{heads-differ, heads-same}
-use Rattle.derivation_replacement.proofs.paths.heads_agree.Statement.{statement}
-use Rattle.derivation_replacement.proofs.paths.heads_agree.Tie as tie
+use Rattle.derivation_paths.specs.Paths.{heads-differ, heads-same}
+use Rattle.derivation_paths.proofs.paths.heads_agree.Statement.{statement}
+use Rattle.derivation_paths.proofs.paths.heads_agree.Tie as tie
 
 pub heads-agree-spec : {M : Type 1} → statement M
 heads-agree-spec = tie.close (tie.spec

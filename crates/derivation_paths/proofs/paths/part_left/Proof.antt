@@ -1,7 +1,7 @@
 use borrow.Author.Needs.{needs}
-use Rattle.derivation_replacement.specs.Paths.{alone-none, alone-first, alone-second, alone-third}
-use Rattle.derivation_replacement.proofs.paths.part_left.Statement.{statement}
-use Rattle.derivation_replacement.proofs.paths.part_left.Tie as tie
+use Rattle.derivation_paths.specs.Paths.{alone-none, alone-first, alone-second, alone-third}
+use Rattle.derivation_paths.proofs.paths.part_left.Statement.{statement}
+use Rattle.derivation_paths.proofs.paths.part_left.Tie as tie
 
 pub part-left-spec : {M : Type 1} → statement M
 part-left-spec = tie.close (tie.spec

@@ -1,10 +1,9 @@
 use borrow.Author.Needs.{needs}
 use native.Mathlib.Omega.{arith}
 use borrow.Author.Tests.{not-false}
-use Rattle.derivation_replacement.specs.Replaced.{depth-room}
-use Rattle.derivation_replacement.specs.Paths.{heads-true, leaves-all, leaves-made, parts-inside}
-use Rattle.derivation_replacement.proofs.paths.stepped.Statement.{statement}
-use Rattle.derivation_replacement.proofs.paths.stepped.Tie as tie
+use Rattle.derivation_paths.specs.Paths.{depth-room, heads-true, leaves-all, leaves-made, parts-inside}
+use Rattle.derivation_paths.proofs.paths.stepped.Statement.{statement}
+use Rattle.derivation_paths.proofs.paths.stepped.Tie as tie
 
 pub stepped-spec : {M : Type 1} → statement M
 stepped-spec = tie.close (tie.spec

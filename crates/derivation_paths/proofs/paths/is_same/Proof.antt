@@ -1,7 +1,7 @@
 use borrow.Author.Needs.{needs}
-use Rattle.derivation_replacement.specs.Paths.{agree-no, agree-keys}
-use Rattle.derivation_replacement.proofs.paths.is_same.Statement.{statement}
-use Rattle.derivation_replacement.proofs.paths.is_same.Tie as tie
+use Rattle.derivation_paths.specs.Paths.{agree-no, agree-keys}
+use Rattle.derivation_paths.proofs.paths.is_same.Statement.{statement}
+use Rattle.derivation_paths.proofs.paths.is_same.Tie as tie
 
 pub is-same-spec : {M : Type 1} → statement M
 is-same-spec = tie.close (tie.spec

@@ -13,8 +13,8 @@ ghost use lib.ListN.{length};
 ghost use Rattle.reader.specs.Words.{word};
 ghost use Rattle.reader.specs.Variables.{binders};
 ghost use Rattle.derivation_trees.specs.Keys.{rank, Normal};
-ghost use Rattle.derivation_replacement.specs.Replaced.{Tables};
-ghost use Rattle.derivation_replacement.specs.Paths.{RecordKey, HeadsAgree, Agree, Inside, Alone, LeftIs, Leaves};
+ghost use Rattle.derivation_paths.specs.Tables.{Tables};
+ghost use Rattle.derivation_paths.specs.Paths.{RecordKey, HeadsAgree, Agree, Inside, Alone, LeftIs, Leaves};
 
 // Is this the key of a record, with no ¬ before it?
 fn is_record(key: usize) -> bool

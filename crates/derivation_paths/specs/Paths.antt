@@ -19,12 +19,12 @@ use Rattle.reader_equality.specs.declared.Parts.{Parts}
 use Rattle.reader_equality.specs.Keys.{partAt, partEntry, atomIn, partIn, atom-in, part-in, part-in-below}
 use Rattle.reader_equality.specs.Shapes.{PartsAre}
 use Rattle.derivation_rules.specs.Erase.{bareTree}
-use Rattle.derivation_trees.specs.Keys.{rank, decoded, Normal}
+use Rattle.derivation_trees.specs.Keys.{negationsOf, bodyOf, rank, decoded, Normal}
 use Rattle.derivation_trees.specs.Table.{Table}
 use Rattle.derivation_trees.specs.Parts.{Part, partOf, as-node, record-in, record-part}
 use Rattle.derivation_known.specs.Known.{fits}
-use Rattle.derivation_replacement.specs.declared.Left.{Left}
-use Rattle.derivation_replacement.specs.Replaced.{Tables, part-falls}
+use Rattle.derivation_paths.specs.declared.Left.{Left}
+use Rattle.derivation_paths.specs.Tables.{Tables}
 
 -- r says that the key is a record's
 pub record RecordKey (key : ℕ) (r : Bool) : Type 0 where
@@ -97,6 +97,11 @@ module _ (i : ℕ) (p : Record) (h : ℕ) (q : Record) where
 
   pub heads-true : (r : Bool) → HeadsAgree i p h q r → r ≡ true → HeadsAgree i p h q true
   heads-true r agree e = rw e at agree
+
+-- a depth below a key that is not 0 does not wrap
+pub depth-room : (j d : ℕ) → 0 < j → d + rank j < 18446744073709551616 → d < 18446744073709551615
+unfolding rank negationsOf bodyOf
+depth-room j d p h = omega arith
 
 -- The ways out of `depth_under`.
 pub under-binder : (k d : ℕ) → k ≡ 19 → d + 1 ≡ d + binders k
