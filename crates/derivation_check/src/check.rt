@@ -98,7 +98,7 @@ fn check_many(obligation: &[u8], derivation: &[u8], frames: &mut [usize; 32776])
 {
     let mut keys = [0usize; 201024];
     let mut reaches = [0u16; 201024];
-    let mut known = [0usize; 16384];
+    let mut known = [0usize; 19526];
     check_within(
         obligation,
         derivation,

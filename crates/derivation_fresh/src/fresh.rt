@@ -1,5 +1,6 @@
 // Refusal 16: the constant of R7 is in neither a member nor the goal. The records up to the largest that may have it are marked first, each once, in the table of
 // reaches, and the marks are then taken off again. What was found to lack the constant is known from then on, and no record is marked for it again.
+use crate::gathered::gather_after;
 use crate::tops::top_of;
 use derivation_forms::forms;
 use derivation_frames::frames;
@@ -265,6 +266,7 @@ fn is_fresh(
         top,
     );
     marks::unmark_all(reaches, c, top);
+    gather_after(obligation, second, m, keys, frames, known, d, c, top, fresh);
     fresh
 }
 

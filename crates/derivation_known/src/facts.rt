@@ -1,4 +1,5 @@
 // The facts of a table, found and kept. A fact has one row, which its numbers say; what stood there before is forgotten.
+use crate::set;
 use reader_equality::tables;
 ghost use Prim.Native.Nat.{_<_};
 ghost use Rattle.derivation_known.specs.Known.{KnownFits, KnownLacks, KeepsFits, KeepsLacks};
@@ -66,10 +67,27 @@ fn lacks_row(length: usize, c: usize, key: usize) -> usize
     row_of(length, a + b)
 }
 
+// Is constant c not in the tree of the key by the set: has it the key's record, and not c?
+fn set_lacks(known: &[usize], c: usize, key: usize) -> bool
+    ensures { λ r. ⌜ KnownLacks (now (known .entry)) c key r ⌝ }
+{
+    let body = key % 262144;
+    if body < 2 {
+        return true;
+    }
+    if !set::is_held(known, body - 1) {
+        return false;
+    }
+    !set::is_held(known, c)
+}
+
 // Has the table that constant c is not in the tree of the key?
 pub fn lacks_known(known: &[usize], c: usize, key: usize) -> bool
     ensures { λ r. ⌜ KnownLacks (now (known .entry)) c key r ⌝ }
 {
+    if set_lacks(known, c, key) {
+        return true;
+    }
     let at = 8 * lacks_row(known.len(), c, key) + 4 + 2 * (key % 2);
     if tables::entry_at(known, at) != c {
         return false;

@@ -14,8 +14,8 @@ check-many-spec = tie.close (tie.spec
     -- slice-aggregate-check-within-2: reaches; keys
     (λ c. sym (length-replicate {A = ℕ} 201024 0))
     -- slice-aggregate-check-within-3: known; reaches; keys
-    (λ c. sym (length-replicate {A = ℕ} 16384 0))
+    (λ c. sym (length-replicate {A = ℕ} 19526 0))
     -- check-within-requires: known; reaches; keys
-    (λ c κs. (many-lent _ _ (c .before .before .before .before .before .before .pre), zeros-made 16384))
+    (λ c κs. (many-lent _ _ (c .before .before .before .before .before .before .pre), zeros-made 19526))
     -- returns: known2; reaches2; keys2; check-within; known; reaches; keys
     (λ c. search needs))

@@ -30,4 +30,4 @@ fits-known-spec = tie.close (tie.spec
     -- entry-at-requires-4
     (λ c κs. search needs)
     -- returns-4
-    (λ c. fits-found _ (c .before .before .before .before .before .before .before .fits-row .result) _ _ _ _ _ _ _ _ (c .before .before .before .before .before .before .entry-at .ensures) (c .before .before .before .before .before .if1 .left) (c .before .before .before .before .entry-at2 .ensures) (c .before .before .before .if2 .left) (c .before .before .entry-at3 .ensures) (c .before .if3 .left) (c .entry-at4 .ensures)))
+    (λ c. fits-found _ (c .before .before .before .before .before .before .before .fits-row .result) _ _ _ _ _ _ _ _ (c .before .before .before .before .before .before .before .fits-row .ensures) (c .before .before .before .before .before .before .entry-at .ensures) (c .before .before .before .before .before .if1 .left) (c .before .before .before .before .entry-at2 .ensures) (c .before .before .before .if2 .left) (c .before .before .entry-at3 .ensures) (c .before .if3 .left) (c .entry-at4 .ensures)))

@@ -41,4 +41,4 @@ keep-fits-spec = tie.close (tie.spec
     -- same-length
     (λ c. search needs)
     -- returns-2
-    (λ c. fits-kept _ (c .before .fits-row .result) _ _ _ _ _ refl (omega arith)))
+    (λ c. fits-kept _ (c .before .fits-row .result) _ _ _ _ _ (c .before .fits-row .ensures) refl (omega arith)))

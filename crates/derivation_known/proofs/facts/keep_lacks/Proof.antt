@@ -36,4 +36,4 @@ keep-lacks-spec = tie.close (tie.spec
     -- same-length
     (λ c. search needs)
     -- returns-2
-    (λ c. lacks-kept _ (c .before .lacks-row .result) (c .before .before .before .args .key % 2) _ _ _ refl (omega arith) (omega arith)))
+    (λ c. lacks-kept _ (c .before .lacks-row .result) (c .before .before .before .args .key % 2) _ _ _ (c .before .lacks-row .ensures) refl (omega arith) (omega arith)))

@@ -1,0 +1,117 @@
+// The set of known facts, made anew of the records of the goal and the members at a depth: a constant that is not in it need not be looked for there.
+use derivation_frames::frames;
+use derivation_known::set;
+use derivation_trees::keys;
+use reader::trees;
+ghost use mathlib.Core.Path.{_≡_};
+ghost use Prim.Native.Nat.{_<_};
+ghost use lib.ListN.{length};
+ghost use Rattle.reader.specs.Words.{word};
+ghost use Rattle.derivation_trees.specs.Table.{Table};
+ghost use Rattle.derivation_frames.specs.Frames.{startAt, Framed};
+ghost use Rattle.derivation_known.specs.Held.{SameRows};
+ghost use Rattle.derivation_known.specs.Known.{Known};
+
+// Puts the records of the chain's items in.
+fn gather_chain(
+    obligation: &[u8],
+    second: &[u8],
+    m: usize,
+    keys: &[usize],
+    known: &mut [usize],
+    chain: usize,
+)
+    requires { ⌜ Table (word (now obligation) (now second) m) (now keys) × (chain < length (now keys)) ⌝ }
+    ensures { λ _. ⌜ SameRows (now (known .entry)) (now (known .exit)) ⌝ }
+{
+    let mut l = chain;
+    while l != 0 {
+        let item = trees::lower_at(obligation, second, m, l, 1);
+        let x = keys::key_of(obligation, second, m, keys, item);
+        set::put_key(known, x);
+        l = trees::lower_at(obligation, second, m, l, 3);
+    }
+}
+
+// Puts the record of what entry e of a frame adds in.
+fn gather_entry(known: &mut [usize], e: usize)
+    ensures { λ _. ⌜ SameRows (now (known .entry)) (now (known .exit)) ⌝ }
+{
+    if e == 0 {
+        return;
+    }
+    set::put_key(known, e - 1);
+}
+
+// Puts the records of what the frames above depth s, to depth d, add in.
+fn gather_added(
+    obligation: &[u8],
+    second: &[u8],
+    m: usize,
+    keys: &[usize],
+    frames: &[usize],
+    known: &mut [usize],
+    d: usize,
+    s: usize,
+)
+    requires { ⌜ Framed (word (now obligation) (now second) m) (length (now keys)) (now frames) d × (s ≡ startAt (now frames) d) ⌝ }
+    ensures { λ _. ⌜ SameRows (now (known .entry)) (now (known .exit)) ⌝ }
+{
+    let mut f = s;
+    while f < d {
+        let e = frames::entry_at(frames, f + 1);
+        gather_entry(known, e);
+        f += 1;
+    }
+}
+
+// Makes the set anew of the records of the goal and the members at depth d.
+fn gather(
+    obligation: &[u8],
+    second: &[u8],
+    m: usize,
+    keys: &[usize],
+    frames: &[usize],
+    known: &mut [usize],
+    d: usize,
+)
+    requires { ⌜ Table (word (now obligation) (now second) m) (now keys) × Framed (word (now obligation) (now second) m) (length (now keys)) (now frames) d × Known (word (now obligation) (now second) m) (now known) ⌝ }
+    ensures { λ _. ⌜ Known (word (now (obligation .entry)) (now (second .entry)) m) (now (known .exit)) ⌝ }
+{
+    set::clear(known);
+    let s = frames::start_at(frames, d);
+    let chain = frames::entry_at(frames, s);
+    let goal = frames::goal_at(frames, d);
+    set::put_key(known, goal);
+    gather_chain(obligation, second, m, keys, known, chain);
+    gather_added(obligation, second, m, keys, frames, known, d, s);
+    set::close(obligation, second, m, known);
+}
+
+// Does so where many records were marked for constant c, to `top`, and it was found to be fresh.
+pub fn gather_after(
+    obligation: &[u8],
+    second: &[u8],
+    m: usize,
+    keys: &[usize],
+    frames: &[usize],
+    known: &mut [usize],
+    d: usize,
+    c: usize,
+    top: usize,
+    fresh: bool,
+)
+    requires { ⌜ Table (word (now obligation) (now second) m) (now keys) × Framed (word (now obligation) (now second) m) (length (now keys)) (now frames) d × Known (word (now obligation) (now second) m) (now known) ⌝ }
+    ensures { λ _. ⌜ Known (word (now (obligation .entry)) (now (second .entry)) m) (now (known .exit)) ⌝ }
+{
+    if !fresh {
+        return;
+    }
+    if top < 4096 {
+        return;
+    }
+    if top - 4096 <= c {
+        return;
+    }
+    gather(obligation, second, m, keys, frames, known, d);
+}
