@@ -52,7 +52,7 @@ fn have_shapes(
 }
 
 // Is the tree with this key a formula?
-fn is_formula(obligation: &[u8], second: &[u8], m: usize, keys: &[usize], key: usize) -> bool
+pub fn is_formula(obligation: &[u8], second: &[u8], m: usize, keys: &[usize], key: usize) -> bool
     requires { ⌜ Normal (word (now obligation) (now second) m) (length (now keys)) key ⌝ }
     ensures { λ r. ⌜ r ≡ isFormula (decoded (word (now (obligation .entry)) (now (second .entry)) m) key) ⌝ }
 {

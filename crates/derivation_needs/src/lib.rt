@@ -1,3 +1,2 @@
 // What a rule needs in the sequent: refusal 14.
 pub mod needs;
-mod order;

@@ -1,5 +1,4 @@
 // Refusal 14: what must be in the sequent, and for BR1 what must not.
-use crate::order::in_order;
 use derivation_forms::forms;
 use derivation_frames::frames;
 use derivation_frames::links;
@@ -101,29 +100,7 @@ fn few_held(
     true
 }
 
-// The same, along the chain of the members first, and by tables where an item was added since or stands out of order.
-fn order_held(
-    obligation: &[u8],
-    second: &[u8],
-    m: usize,
-    keys: &[usize],
-    frames: &[usize],
-    d: usize,
-    n: usize,
-    c: usize,
-) -> bool
-    requires { ⌜ At (word (now obligation) (now second) m) (now keys) (now frames) d n × (c < length (now keys)) ⌝ }
-    ensures { λ r. ⌜ r ≡ every (held (membersAt (word (now (obligation .entry)) (now (second .entry)) m) (now (frames .entry)) d)) (chainTrees (word (now (obligation .entry)) (now (second .entry)) m) c) ⌝ }
-{
-    let s = frames::start_at(frames, d);
-    let b = frames::entry_at(frames, s);
-    if in_order(obligation, second, m, keys, b, c) {
-        return true;
-    }
-    many_held(obligation, second, m, keys, frames, d, n, c)
-}
-
-// The same, by what is sooner done where members or frames are many.
+// The same, by tables where members or frames are many.
 fn items_held(
     obligation: &[u8],
     second: &[u8],
@@ -138,10 +115,10 @@ fn items_held(
     ensures { λ r. ⌜ r ≡ every (held (membersAt (word (now (obligation .entry)) (now (second .entry)) m) (now (frames .entry)) d)) (chainTrees (word (now (obligation .entry)) (now (second .entry)) m) c) ⌝ }
 {
     if 16 < frames::count_at(frames, d) {
-        return order_held(obligation, second, m, keys, frames, d, n, c);
+        return many_held(obligation, second, m, keys, frames, d, n, c);
     }
     if 16 < d - frames::start_at(frames, d) {
-        return order_held(obligation, second, m, keys, frames, d, n, c);
+        return many_held(obligation, second, m, keys, frames, d, n, c);
     }
     few_held(obligation, second, m, keys, frames, d, n, c)
 }

@@ -6,6 +6,7 @@ use derivation_forms::premises;
 use derivation_frames::frames;
 use derivation_frames::links;
 use derivation_fresh::fresh;
+use derivation_kept::kept;
 use derivation_needs::needs;
 use derivation_tables::tables;
 use reader::trees;
@@ -24,6 +25,7 @@ ghost use Rattle.derivation_frames.specs.Frames.{goalAt, membersAt, stateOf};
 ghost use Rattle.derivation_members.specs.Needs.{At};
 ghost use Rattle.derivation_fits.specs.Fits.{nodeFits};
 ghost use Rattle.derivation_nodes.specs.Rooms.{nodeRoom};
+ghost use Rattle.derivation_nodes.specs.Kept.{Passes};
 ghost use Rattle.derivation_nodes.specs.Nodes.{Ready, membersFit, goalShapedAt, premisesAt, formFault, fitFault};
 
 // Has the goal the form that rule k of node n shows?
@@ -188,6 +190,36 @@ fn fit_fault(
     0
 }
 
+// Is node n one of BR2 that passes, found in one run along its parts? It may pass all the same, where the answer is no.
+fn kept_passes(
+    obligation: &[u8],
+    second: &[u8],
+    m: usize,
+    keys: &[usize],
+    reaches: &[u16],
+    frames: &[usize],
+    d: usize,
+    n: usize,
+) -> bool
+    requires { ⌜ At (word (now obligation) (now second) m) (now keys) (now frames) d n × Tables (word (now obligation) (now second) m) (now keys) (now reaches) ⌝ }
+    ensures { λ r. ⌜ Passes (word (now (obligation .entry)) (now (second .entry)) m) (now (frames .entry)) d n r ⌝ }
+{
+    let x = links::node_at(obligation, second, m, n);
+    if x.kind != 65 {
+        return false;
+    }
+    if 8192 < d {
+        return false;
+    }
+    let byte = derivation_bytes::derivation_byte(x.kind);
+    if !premises_fit(obligation, second, m, n, x.premises, byte) {
+        return false;
+    }
+    let s = frames::start_at(frames, d);
+    let b = frames::entry_at(frames, s);
+    kept::all_kept(obligation, second, m, keys, reaches, b, x.parts)
+}
+
 // The refusal of node n at depth d, 0 for none. The table of reaches comes back as it was.
 pub fn node_fault(
     obligation: &[u8],
@@ -203,6 +235,9 @@ pub fn node_fault(
     requires { ⌜ At (word (now obligation) (now second) m) (now keys) (now frames) d n × Ready (word (now obligation) (now second) m) (now keys) (now reaches) × Known (word (now obligation) (now second) m) (now known) ⌝ }
     ensures { λ r. ⌜ (r ≡ nodeFault (word (now (obligation .entry)) (now (second .entry)) m) (stateOf (word (now (obligation .entry)) (now (second .entry)) m) (now (frames .entry)) d) n) × (now (reaches .exit) ≡ now (reaches .entry)) × Known (word (now (obligation .entry)) (now (second .entry)) m) (now (known .exit)) ⌝ }
 {
+    if kept_passes(obligation, second, m, keys, reaches, frames, d, n) {
+        return 0;
+    }
     let why = form_fault(obligation, second, m, keys, frames, d, n);
     if why != 0 {
         return why;

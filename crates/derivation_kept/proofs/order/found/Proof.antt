@@ -3,9 +3,9 @@ use Prim.Native.Nat.{_<_}
 use lib.ListN.{length}
 use Rattle.reader.specs.Words.{word}
 use Rattle.derivation_forms.specs.Formed.{item-in, rest-in, rest-falls}
-use Rattle.derivation_needs.specs.Order.{Behind, behind-self, behind-next, found-none, found-here}
-use Rattle.derivation_needs.proofs.order.found.Statement.{statement}
-use Rattle.derivation_needs.proofs.order.found.Tie as tie
+use Rattle.derivation_kept.specs.Order.{Behind, behind-self, behind-next, found-none, found-here}
+use Rattle.derivation_kept.proofs.order.found.Statement.{statement}
+use Rattle.derivation_kept.proofs.order.found.Tie as tie
 
 abbrev Inv-loop : tie.InvT-loop
 Inv-loop obligation second m keys p x q₀ q = (q < length keys) × Behind (word obligation second m) p q

@@ -1,16 +1,11 @@
-// The parts that BR2 keeps mostly stand in the order of the members: then they are found in one run along both chains.
+// A member looked for from the place of the last one on: the parts that BR2 keeps mostly stand in the order of the members.
 use derivation_frames::links;
 use derivation_trees::keys;
-ghost use mathlib.Core.Path.{_≡_};
-ghost use mathlib.Core.Bool.{true};
 ghost use Prim.Native.Nat.{_<_};
 ghost use lib.ListN.{length};
 ghost use Rattle.reader.specs.Words.{word};
-ghost use Rattle.reader.specs.Tests.{every};
 ghost use Rattle.derivation_trees.specs.Table.{Table};
-ghost use Rattle.derivation_frames.specs.Frames.{chainTrees};
-ghost use Rattle.derivation_members.specs.Needs.{held};
-ghost use Rattle.derivation_needs.specs.Order.{Behind, Found};
+ghost use Rattle.derivation_kept.specs.Order.{Behind, Found};
 
 // The first link of chain p whose item has key x, 0 for none.
 fn found(obligation: &[u8], second: &[u8], m: usize, keys: &[usize], p: usize, x: usize) -> usize
@@ -30,7 +25,7 @@ fn found(obligation: &[u8], second: &[u8], m: usize, keys: &[usize], p: usize, x
 }
 
 // A link of chain b whose item has key x, the first from link p on, or of the whole chain where it may be run along again; 0 where none is found.
-fn sought(
+pub fn sought(
     obligation: &[u8],
     second: &[u8],
     m: usize,
@@ -51,33 +46,4 @@ fn sought(
         return 0;
     }
     found(obligation, second, m, keys, b, x)
-}
-
-// Is every item of chain c found in chain b, which is run along no more than twice? It may be one all the same, where the answer is no.
-pub fn in_order(
-    obligation: &[u8],
-    second: &[u8],
-    m: usize,
-    keys: &[usize],
-    b: usize,
-    c: usize,
-) -> bool
-    requires { ⌜ Table (word (now obligation) (now second) m) (now keys) × (b < length (now keys)) × (c < length (now keys)) ⌝ }
-    ensures { λ r. ⌜ (r ≡ true → every (held (chainTrees (word (now (obligation .entry)) (now (second .entry)) m) b)) (chainTrees (word (now (obligation .entry)) (now (second .entry)) m) c) ≡ true) ⌝ }
-{
-    let mut l = c;
-    let mut p = b;
-    let mut again = true;
-    while l != 0 {
-        let link = links::link_at(obligation, second, m, l);
-        let x = keys::key_of(obligation, second, m, keys, link.item);
-        let q = sought(obligation, second, m, keys, b, p, x, again);
-        if q == 0 {
-            return false;
-        }
-        again = q <= p;
-        p = q;
-        l = link.next;
-    }
-    true
 }

@@ -1,7 +1,7 @@
 use borrow.Author.Needs.{needs}
-use Rattle.derivation_needs.specs.Order.{behind-self, found-none, found-behind}
-use Rattle.derivation_needs.proofs.order.sought.Statement.{statement}
-use Rattle.derivation_needs.proofs.order.sought.Tie as tie
+use Rattle.derivation_kept.specs.Order.{behind-self, found-none, found-behind}
+use Rattle.derivation_kept.proofs.order.sought.Statement.{statement}
+use Rattle.derivation_kept.proofs.order.sought.Tie as tie
 
 pub sought-spec : {M : Type 1} → statement M
 sought-spec = tie.close (tie.spec
