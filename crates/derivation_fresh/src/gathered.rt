@@ -1,16 +1,18 @@
 // The set of known facts, made anew of the records of the goal and the members at a depth: a constant that is not in it need not be looked for there.
+use crate::tops::top_of;
 use derivation_frames::frames;
 use derivation_known::set;
 use derivation_trees::keys;
 use reader::trees;
 ghost use mathlib.Core.Path.{_≡_};
-ghost use Prim.Native.Nat.{_<_};
+ghost use Prim.Native.Nat.{_<_, _≤_};
 ghost use lib.ListN.{length};
 ghost use Rattle.reader.specs.Words.{word};
 ghost use Rattle.derivation_trees.specs.Table.{Table};
 ghost use Rattle.derivation_frames.specs.Frames.{startAt, Framed};
 ghost use Rattle.derivation_known.specs.Held.{SameRows};
 ghost use Rattle.derivation_known.specs.Known.{Known};
+ghost use Rattle.derivation_fresh.specs.Tops.{Topped};
 
 // Puts the records of the chain's items in.
 fn gather_chain(
@@ -88,8 +90,9 @@ fn gather(
     set::close(obligation, second, m, known);
 }
 
-// Does so where many records were marked for constant c, to `top`, and it was found to be fresh.
-pub fn gather_after(
+// A number above the records of the members and the goal at depth d that c may be in. Where many records would have to be marked for c, the set is made anew first:
+// it has no more records than four times as many, and a constant that is not in it then needs no mark.
+pub fn settled_top(
     obligation: &[u8],
     second: &[u8],
     m: usize,
@@ -98,20 +101,17 @@ pub fn gather_after(
     known: &mut [usize],
     d: usize,
     c: usize,
-    top: usize,
-    fresh: bool,
-)
+) -> usize
     requires { ⌜ Table (word (now obligation) (now second) m) (now keys) × Framed (word (now obligation) (now second) m) (length (now keys)) (now frames) d × Known (word (now obligation) (now second) m) (now known) ⌝ }
-    ensures { λ _. ⌜ Known (word (now (obligation .entry)) (now (second .entry)) m) (now (known .exit)) ⌝ }
+    ensures { λ r. ⌜ Topped (word (now (obligation .entry)) (now (second .entry)) m) (now (frames .entry)) c d r × (r ≤ length (now (keys .entry))) × Known (word (now (obligation .entry)) (now (second .entry)) m) (now (known .exit)) ⌝ }
 {
-    if !fresh {
-        return;
-    }
+    let top = top_of(obligation, second, m, keys, frames, known, d, c);
     if top < 4096 {
-        return;
+        return top;
     }
-    if top - 4096 <= c {
-        return;
+    if top - top / 4 <= c {
+        return top;
     }
     gather(obligation, second, m, keys, frames, known, d);
+    top_of(obligation, second, m, keys, frames, known, d, c)
 }
