@@ -67,7 +67,17 @@ fn gather_added(
     }
 }
 
-// Makes the set anew of the records of the goal and the members at depth d.
+// Takes every record out, where c is one of them: so the records of other members, which lack c, may stay.
+fn clear_of(known: &mut [usize], c: usize)
+    ensures { λ _. ⌜ SameRows (now (known .entry)) (now (known .exit)) ⌝ }
+{
+    if !set::is_held(known, c) {
+        return;
+    }
+    set::clear(known);
+}
+
+// Puts the records of the goal and the members at depth d in, and all their parts.
 fn gather(
     obligation: &[u8],
     second: &[u8],
@@ -76,11 +86,12 @@ fn gather(
     frames: &[usize],
     known: &mut [usize],
     d: usize,
+    c: usize,
 )
     requires { ⌜ Table (word (now obligation) (now second) m) (now keys) × Framed (word (now obligation) (now second) m) (length (now keys)) (now frames) d × Known (word (now obligation) (now second) m) (now known) ⌝ }
     ensures { λ _. ⌜ Known (word (now (obligation .entry)) (now (second .entry)) m) (now (known .exit)) ⌝ }
 {
-    set::clear(known);
+    clear_of(known, c);
     let s = frames::start_at(frames, d);
     let chain = frames::entry_at(frames, s);
     let goal = frames::goal_at(frames, d);
@@ -90,8 +101,8 @@ fn gather(
     set::close(obligation, second, m, known);
 }
 
-// A number above the records of the members and the goal at depth d that c may be in. Where many records would have to be marked for c, the set is made anew first:
-// it has no more records than four times as many, and a constant that is not in it then needs no mark.
+// A number above the records of the members and the goal at depth d that c may be in. Where many records would have to be marked for c, some part of all there are,
+// those of the goal and the members are gathered first: where c is not among them, it needs no marks.
 pub fn settled_top(
     obligation: &[u8],
     second: &[u8],
@@ -106,12 +117,12 @@ pub fn settled_top(
     ensures { λ r. ⌜ Topped (word (now (obligation .entry)) (now (second .entry)) m) (now (frames .entry)) c d r × (r ≤ length (now (keys .entry))) × Known (word (now (obligation .entry)) (now (second .entry)) m) (now (known .exit)) ⌝ }
 {
     let top = top_of(obligation, second, m, keys, frames, known, d, c);
-    if top < 4096 {
+    if top <= c {
         return top;
     }
-    if top - top / 4 <= c {
+    if top - c < 4096 + keys.len() / 16 {
         return top;
     }
-    gather(obligation, second, m, keys, frames, known, d);
+    gather(obligation, second, m, keys, frames, known, d, c);
     top_of(obligation, second, m, keys, frames, known, d, c)
 }
