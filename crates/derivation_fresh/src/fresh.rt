@@ -1,7 +1,7 @@
 // Refusal 16: the constant of R7 is in neither a member nor the goal. The records up to the largest that may have it are marked first, each once, in the table of
-// reaches, and the marks are then taken off again. What was found to lack the constant is known from then on, and no record is marked for it again.
-use crate::gathered::gather_after;
-use crate::tops::top_of;
+// reaches, and the marks are then taken off again. What was found to lack the constant is known from then on, and no record is marked for it again. Where that would
+// be many, the records of the goal and the members are gathered first: a constant that is not among them, whichever it is, needs no marks there.
+use crate::gathered::settled_top;
 use derivation_forms::forms;
 use derivation_frames::frames;
 use derivation_known::facts;
@@ -251,7 +251,7 @@ fn is_fresh(
     requires { ⌜ Table (word (now obligation) (now second) m) (now keys) × Framed (word (now obligation) (now second) m) (length (now keys)) (now frames) d × (length (now keys) ≤ length (now reaches)) × Unmarked (now reaches) × Known (word (now obligation) (now second) m) (now known) ⌝ }
     ensures { λ r. ⌜ (r ≡ freshIn c (decoded (word (now (obligation .entry)) (now (second .entry)) m) (goalAt (now (frames .entry)) d)) (membersAt (word (now (obligation .entry)) (now (second .entry)) m) (now (frames .entry)) d)) × (now (reaches .exit) ≡ now (reaches .entry)) × Known (word (now (obligation .entry)) (now (second .entry)) m) (now (known .exit)) ⌝ }
 {
-    let top = top_of(obligation, second, m, keys, frames, known, d, c);
+    let top = settled_top(obligation, second, m, keys, frames, known, d, c);
     marks::mark_all(obligation, second, m, reaches, c, top);
     let fresh = none_marked(
         obligation,
@@ -266,7 +266,6 @@ fn is_fresh(
         top,
     );
     marks::unmark_all(reaches, c, top);
-    gather_after(obligation, second, m, keys, frames, known, d, c, top, fresh);
     fresh
 }
 

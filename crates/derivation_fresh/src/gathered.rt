@@ -1,16 +1,18 @@
 // The set of known facts, made anew of the records of the goal and the members at a depth: a constant that is not in it need not be looked for there.
+use crate::tops::top_of;
 use derivation_frames::frames;
 use derivation_known::set;
 use derivation_trees::keys;
 use reader::trees;
 ghost use mathlib.Core.Path.{_≡_};
-ghost use Prim.Native.Nat.{_<_};
+ghost use Prim.Native.Nat.{_<_, _≤_};
 ghost use lib.ListN.{length};
 ghost use Rattle.reader.specs.Words.{word};
 ghost use Rattle.derivation_trees.specs.Table.{Table};
 ghost use Rattle.derivation_frames.specs.Frames.{startAt, Framed};
 ghost use Rattle.derivation_known.specs.Held.{SameRows};
 ghost use Rattle.derivation_known.specs.Known.{Known};
+ghost use Rattle.derivation_fresh.specs.Tops.{Topped};
 
 // Puts the records of the chain's items in.
 fn gather_chain(
@@ -65,7 +67,17 @@ fn gather_added(
     }
 }
 
-// Makes the set anew of the records of the goal and the members at depth d.
+// Takes every record out, where c is one of them: so the records of other members, which lack c, may stay.
+fn clear_of(known: &mut [usize], c: usize)
+    ensures { λ _. ⌜ SameRows (now (known .entry)) (now (known .exit)) ⌝ }
+{
+    if !set::is_held(known, c) {
+        return;
+    }
+    set::clear(known);
+}
+
+// Puts the records of the goal and the members at depth d in, and all their parts.
 fn gather(
     obligation: &[u8],
     second: &[u8],
@@ -74,11 +86,12 @@ fn gather(
     frames: &[usize],
     known: &mut [usize],
     d: usize,
+    c: usize,
 )
     requires { ⌜ Table (word (now obligation) (now second) m) (now keys) × Framed (word (now obligation) (now second) m) (length (now keys)) (now frames) d × Known (word (now obligation) (now second) m) (now known) ⌝ }
     ensures { λ _. ⌜ Known (word (now (obligation .entry)) (now (second .entry)) m) (now (known .exit)) ⌝ }
 {
-    set::clear(known);
+    clear_of(known, c);
     let s = frames::start_at(frames, d);
     let chain = frames::entry_at(frames, s);
     let goal = frames::goal_at(frames, d);
@@ -88,8 +101,9 @@ fn gather(
     set::close(obligation, second, m, known);
 }
 
-// Does so where many records were marked for constant c, to `top`, and it was found to be fresh.
-pub fn gather_after(
+// A number above the records of the members and the goal at depth d that c may be in. Where many records would have to be marked for c, some part of all there are,
+// those of the goal and the members are gathered first: where c is not among them, it needs no marks.
+pub fn settled_top(
     obligation: &[u8],
     second: &[u8],
     m: usize,
@@ -98,20 +112,17 @@ pub fn gather_after(
     known: &mut [usize],
     d: usize,
     c: usize,
-    top: usize,
-    fresh: bool,
-)
+) -> usize
     requires { ⌜ Table (word (now obligation) (now second) m) (now keys) × Framed (word (now obligation) (now second) m) (length (now keys)) (now frames) d × Known (word (now obligation) (now second) m) (now known) ⌝ }
-    ensures { λ _. ⌜ Known (word (now (obligation .entry)) (now (second .entry)) m) (now (known .exit)) ⌝ }
+    ensures { λ r. ⌜ Topped (word (now (obligation .entry)) (now (second .entry)) m) (now (frames .entry)) c d r × (r ≤ length (now (keys .entry))) × Known (word (now (obligation .entry)) (now (second .entry)) m) (now (known .exit)) ⌝ }
 {
-    if !fresh {
-        return;
+    let top = top_of(obligation, second, m, keys, frames, known, d, c);
+    if top <= c {
+        return top;
     }
-    if top < 4096 {
-        return;
+    if top - c < 4096 + keys.len() / 16 {
+        return top;
     }
-    if top - 4096 <= c {
-        return;
-    }
-    gather(obligation, second, m, keys, frames, known, d);
+    gather(obligation, second, m, keys, frames, known, d, c);
+    top_of(obligation, second, m, keys, frames, known, d, c)
 }
