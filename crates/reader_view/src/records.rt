@@ -48,18 +48,30 @@ fn record_whole(s: &[u8], i: usize) -> Record
 }
 
 // Record i of two files. `record_past` is large and called at two places: so the compiler leaves it a call, and what reads a whole record is small enough to stand
-// in its callers.
+// in its callers. The words of what it answers are put together anew: else those of a whole record would go through memory too, where the call writes them.
 pub fn record(obligation: &[u8], second: &[u8], m: usize, i: usize) -> Record
     ensures { λ r. ⌜ RecordIs (word (now (obligation .entry)) (now (second .entry)) m) i r ⌝ }
 {
     if m < i {
         if second.len() / 16 <= i - m {
-            return record_past(second, i - m);
+            let x = record_past(second, i - m);
+            return Record {
+                kind: x.kind,
+                a: x.a,
+                b: x.b,
+                c: x.c,
+            };
         }
         return record_whole(second, i - m);
     }
     if obligation.len() / 16 <= i {
-        return record_past(obligation, i);
+        let x = record_past(obligation, i);
+        return Record {
+            kind: x.kind,
+            a: x.a,
+            b: x.b,
+            c: x.c,
+        };
     }
     record_whole(obligation, i)
 }
