@@ -418,8 +418,9 @@ fn fresh(steps: Steps) -> Shape {
     )
 }
 
-/// The same up to the file's end, each R7 with a constant of its own that is older than the members.
-fn fresh_each() -> Shape {
+/// The same up to the file's end, each R7 with a constant of its own that is older than the members; or with a small member
+/// more above each.
+fn fresh_each(growing: bool) -> Shape {
     let mut maker = maker();
     let (given, bottom) = (maker.sheet.given, maker.sheet.bottom);
     let all = maker.push(ALL, given, bottom, 0);
@@ -433,14 +434,25 @@ fn fresh_each() -> Shape {
         .collect();
     let formulas: Vec<u32> = (0..12).map(|number| large(&mut maker, number)).collect();
     let next = Cell::new(0);
-    let root = maker.full(bottom, 2, FOR_MEMBERS, |maker, root| {
-        let [up, down] = parts[next.replace(next.get() + 1) % parts.len()];
+    // Five nodes a step at most: so that a branch has fewer than 2,048 members.
+    let depth = if growing { 5 } else { 2 };
+    let root = maker.full(bottom, depth, FOR_MEMBERS, |maker, root| {
+        let at = next.replace(next.get() + 1);
+        let [up, down] = parts[at % parts.len()];
         let inner = maker.node(77, down, &[root]);
-        maker.node(78, up, &[inner])
+        let outer = maker.node(78, up, &[inner]);
+        match growing {
+            true => {
+                let member = maker.numbered(at as u32 + 12);
+                with_members(maker, &[member], outer)
+            }
+            false => outer,
+        }
     });
     let root = with_members(&mut maker, &formulas, root);
+    let more = if growing { ", a member more each time" } else { "" };
     maker.close(
-        "R7 with constants of their own beside such members, whole",
+        &format!("R7 with constants of their own beside such members{more}, whole"),
         root,
     )
 }
@@ -638,7 +650,8 @@ pub fn whole_derivations() -> Vec<Shape> {
     let others = vec![
         kept(Steps::All),
         fresh(Steps::All),
-        fresh_each(),
+        fresh_each(false),
+        fresh_each(true),
         own_terms(),
     ];
     [others, heavy_bodies(Steps::All)].concat()

@@ -1,6 +1,7 @@
 // The set of known facts, made anew of the records of the goal and the members at a depth: a constant that is not in it need not be looked for there.
 use crate::tops::top_of;
 use derivation_frames::frames;
+use derivation_frames::links;
 use derivation_known::set;
 use derivation_trees::keys;
 use reader::trees;
@@ -67,6 +68,91 @@ fn gather_added(
     }
 }
 
+// Puts the records of the chain's items in with all their parts, one after the other. Says whether it did so with all.
+fn include_chain(
+    obligation: &[u8],
+    second: &[u8],
+    m: usize,
+    keys: &[usize],
+    known: &mut [usize],
+    chain: usize,
+) -> bool
+    requires { ⌜ Table (word (now obligation) (now second) m) (now keys) × (chain < length (now keys)) × Known (word (now obligation) (now second) m) (now known) ⌝ }
+    ensures { λ _. ⌜ Known (word (now (obligation .entry)) (now (second .entry)) m) (now (known .exit)) ⌝ }
+{
+    let mut l = chain;
+    while l != 0 {
+        let link = links::link_at(obligation, second, m, l);
+        let x = keys::key_of(obligation, second, m, keys, link.item);
+        if !set::include_key(obligation, second, m, known, x) {
+            return false;
+        }
+        l = link.next;
+    }
+    true
+}
+
+// The same with what entry e of a frame adds.
+fn include_entry(obligation: &[u8], second: &[u8], m: usize, known: &mut [usize], e: usize) -> bool
+    requires { ⌜ Known (word (now obligation) (now second) m) (now known) ⌝ }
+    ensures { λ _. ⌜ Known (word (now (obligation .entry)) (now (second .entry)) m) (now (known .exit)) ⌝ }
+{
+    if e == 0 {
+        return true;
+    }
+    set::include_key(obligation, second, m, known, e - 1)
+}
+
+// The same with what the frames above depth s, to depth d, add.
+fn include_added(
+    obligation: &[u8],
+    second: &[u8],
+    m: usize,
+    keys: &[usize],
+    frames: &[usize],
+    known: &mut [usize],
+    d: usize,
+    s: usize,
+) -> bool
+    requires { ⌜ Framed (word (now obligation) (now second) m) (length (now keys)) (now frames) d × (s ≡ startAt (now frames) d) × Known (word (now obligation) (now second) m) (now known) ⌝ }
+    ensures { λ _. ⌜ Known (word (now (obligation .entry)) (now (second .entry)) m) (now (known .exit)) ⌝ }
+{
+    let mut f = s;
+    while f < d {
+        let e = frames::entry_at(frames, f + 1);
+        if !include_entry(obligation, second, m, known, e) {
+            return false;
+        }
+        f += 1;
+    }
+    true
+}
+
+// The same with the goal and the members at depth d: quick where few of their records are not in the set.
+fn include_all(
+    obligation: &[u8],
+    second: &[u8],
+    m: usize,
+    keys: &[usize],
+    frames: &[usize],
+    known: &mut [usize],
+    d: usize,
+) -> bool
+    requires { ⌜ Table (word (now obligation) (now second) m) (now keys) × Framed (word (now obligation) (now second) m) (length (now keys)) (now frames) d × Known (word (now obligation) (now second) m) (now known) ⌝ }
+    ensures { λ _. ⌜ Known (word (now (obligation .entry)) (now (second .entry)) m) (now (known .exit)) ⌝ }
+{
+    let s = frames::start_at(frames, d);
+    let chain = frames::entry_at(frames, s);
+    let goal = frames::goal_at(frames, d);
+    if !set::include_key(obligation, second, m, known, goal) {
+        return false;
+    }
+    if !include_chain(obligation, second, m, keys, known, chain) {
+        return false;
+    }
+    include_added(obligation, second, m, keys, frames, known, d, s)
+}
+
 // Takes every record out, where c is one of them: so the records of other members, which lack c, may stay.
 fn clear_of(known: &mut [usize], c: usize)
     ensures { λ _. ⌜ SameRows (now (known .entry)) (now (known .exit)) ⌝ }
@@ -101,6 +187,30 @@ fn gather(
     set::close(obligation, second, m, known);
 }
 
+// The same, one after the other where that is quick and c is not in the set.
+fn extend(
+    obligation: &[u8],
+    second: &[u8],
+    m: usize,
+    keys: &[usize],
+    frames: &[usize],
+    known: &mut [usize],
+    d: usize,
+    c: usize,
+)
+    requires { ⌜ Table (word (now obligation) (now second) m) (now keys) × Framed (word (now obligation) (now second) m) (length (now keys)) (now frames) d × Known (word (now obligation) (now second) m) (now known) ⌝ }
+    ensures { λ _. ⌜ Known (word (now (obligation .entry)) (now (second .entry)) m) (now (known .exit)) ⌝ }
+{
+    if set::is_held(known, c) {
+        gather(obligation, second, m, keys, frames, known, d, c);
+        return;
+    }
+    if include_all(obligation, second, m, keys, frames, known, d) {
+        return;
+    }
+    gather(obligation, second, m, keys, frames, known, d, c);
+}
+
 // A number above the records of the members and the goal at depth d that c may be in. Where many records would have to be marked for c, some part of all there are,
 // those of the goal and the members are gathered first: where c is not among them, it needs no marks.
 pub fn settled_top(
@@ -123,6 +233,6 @@ pub fn settled_top(
     if top - c < 4096 + keys.len() / 16 {
         return top;
     }
-    gather(obligation, second, m, keys, frames, known, d, c);
+    extend(obligation, second, m, keys, frames, known, d, c);
     top_of(obligation, second, m, keys, frames, known, d, c)
 }

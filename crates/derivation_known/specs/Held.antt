@@ -119,7 +119,7 @@ module _ (known : List ℕ) (p v u : ℕ) (ev : v ≡ getD known (16384 + p / 64
   }
 
 -- a part is no larger than its record
-part-most : (rd : Reader) (j w : ℕ) → partAt rd false j w ≤ j
+pub part-most : (rd : Reader) (j w : ℕ) → partAt rd false j w ≤ j
 unfolding partAt lower ifTrue ifLt
 part-most rd j w = go (isPart false (roleAt rd j w)) (ltb (rd j w) j) refl
   where

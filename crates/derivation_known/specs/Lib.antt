@@ -1,3 +1,4 @@
 pub mod Bits
 pub mod Held
+pub mod Included
 pub mod Known

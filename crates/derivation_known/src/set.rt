@@ -7,6 +7,7 @@ ghost use Prim.Native.Nat.{_+_, _*_, _<_};
 ghost use Rattle.reader.specs.Words.{word};
 ghost use Rattle.derivation_known.specs.Held.{held, SameRows, Puts, ClosedFrom};
 ghost use Rattle.derivation_known.specs.Known.{Facts, Known};
+ghost use Rattle.derivation_known.specs.Included.{Includes};
 
 // Is record j in the set? Past the table's end there is none.
 pub fn is_held(known: &[usize], j: usize) -> bool
@@ -87,4 +88,60 @@ pub fn close(obligation: &[u8], second: &[u8], m: usize, known: &mut [usize])
         k -= 1;
         close_word(obligation, second, m, known, k);
     }
+}
+
+// Puts record j in with all the records that its tree is made of, so that the set stays closed, where it is no deeper than `left` above those that are in it already.
+// Says whether it is in.
+fn include(
+    obligation: &[u8],
+    second: &[u8],
+    m: usize,
+    known: &mut [usize],
+    j: usize,
+    left: usize,
+) -> bool
+    requires { ⌜ Known (word (now obligation) (now second) m) (now known) ⌝ }
+    ensures { λ r. ⌜ Includes (word (now (obligation .entry)) (now (second .entry)) m) (now (known .entry)) (now (known .exit)) j r ⌝ }
+{
+    if is_held(known, j) {
+        return true;
+    }
+    if left == 0 {
+        return false;
+    }
+    if j == 0 {
+        put(known, j);
+        return is_held(known, j);
+    }
+    let x = views::record_of(obligation, second, m, j);
+    let parts = shapes::parts_in(false, j, x);
+    if !include(obligation, second, m, known, parts.first, left - 1) {
+        return false;
+    }
+    if !include(obligation, second, m, known, parts.second, left - 1) {
+        return false;
+    }
+    if !include(obligation, second, m, known, parts.third, left - 1) {
+        return false;
+    }
+    put(known, j);
+    is_held(known, j)
+}
+
+// The same with the record of a key, where it has one.
+pub fn include_key(
+    obligation: &[u8],
+    second: &[u8],
+    m: usize,
+    known: &mut [usize],
+    key: usize,
+) -> bool
+    requires { ⌜ Known (word (now obligation) (now second) m) (now known) ⌝ }
+    ensures { λ _. ⌜ Known (word (now (obligation .entry)) (now (second .entry)) m) (now (known .exit)) ⌝ }
+{
+    let body = key % 262144;
+    if body < 2 {
+        return true;
+    }
+    include(obligation, second, m, known, body - 1, 64)
 }
