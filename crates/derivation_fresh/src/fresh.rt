@@ -1,7 +1,7 @@
 // Refusal 16: the constant of R7 is in neither a member nor the goal. The records up to the largest that may have it are marked first, each once, in the table of
 // reaches, and the marks are then taken off again. What was found to lack the constant is known from then on, and no record is marked for it again. Where that would
 // be many, the records of the goal and the members are gathered first: a constant that is not among them, whichever it is, needs no marks there.
-use crate::gathered::settled_top;
+use crate::tops::settled_top;
 use derivation_forms::forms;
 use derivation_frames::frames;
 use derivation_known::facts;

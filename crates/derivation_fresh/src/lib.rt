@@ -1,4 +1,3 @@
 // The constant of R7 is in neither the members nor the goal: refusal 16.
 pub mod fresh;
-mod gathered;
 mod tops;

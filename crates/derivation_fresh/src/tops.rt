@@ -1,5 +1,6 @@
 // The largest record that a member or the goal may have the constant of R7 in: keys of which the table of known facts has that they lack it are passed over.
 use derivation_frames::frames;
+use derivation_gathered::gathered::extend;
 use derivation_known::facts;
 use derivation_trees::keys;
 use reader::trees;
@@ -107,7 +108,7 @@ fn chain_top(
 }
 
 // A number above the records of the members and the goal at depth d that c may be in.
-pub fn top_of(
+fn top_of(
     obligation: &[u8],
     second: &[u8],
     m: usize,
@@ -134,4 +135,30 @@ pub fn top_of(
         f += 1;
     }
     top
+}
+
+// A number above the records of the members and the goal at depth d that c may be in. Where many records would have to be marked for c, some part of all there are,
+// those of the goal and the members are gathered first: where c is not among them, it needs no marks.
+pub fn settled_top(
+    obligation: &[u8],
+    second: &[u8],
+    m: usize,
+    keys: &[usize],
+    frames: &[usize],
+    known: &mut [usize],
+    d: usize,
+    c: usize,
+) -> usize
+    requires { ⌜ Table (word (now obligation) (now second) m) (now keys) × Framed (word (now obligation) (now second) m) (length (now keys)) (now frames) d × Known (word (now obligation) (now second) m) (now known) ⌝ }
+    ensures { λ r. ⌜ Topped (word (now (obligation .entry)) (now (second .entry)) m) (now (frames .entry)) c d r × (r ≤ length (now (keys .entry))) × Known (word (now (obligation .entry)) (now (second .entry)) m) (now (known .exit)) ⌝ }
+{
+    let top = top_of(obligation, second, m, keys, frames, known, d, c);
+    if top <= c {
+        return top;
+    }
+    if top - c < 4096 + keys.len() / 16 {
+        return top;
+    }
+    extend(obligation, second, m, keys, frames, known, d, c);
+    top_of(obligation, second, m, keys, frames, known, d, c)
 }

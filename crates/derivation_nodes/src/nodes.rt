@@ -208,16 +208,16 @@ fn kept_passes(
     if x.kind != 65 {
         return false;
     }
-    if 8192 < d {
-        return false;
-    }
     let byte = derivation_bytes::derivation_byte(x.kind);
     if !premises_fit(obligation, second, m, n, x.premises, byte) {
         return false;
     }
     let s = frames::start_at(frames, d);
     let b = frames::entry_at(frames, s);
-    kept::all_kept(obligation, second, m, keys, reaches, b, x.parts)
+    if d <= 8192 {
+        return kept::all_kept(obligation, second, m, keys, reaches, b, x.parts);
+    }
+    false
 }
 
 // The refusal of node n at depth d, 0 for none. The table of reaches comes back as it was.

@@ -14,13 +14,11 @@ kept-passes-spec = tie.close (tie.spec
     (λ c κs. search needs)
     -- returns
     (λ c. search passes-no)
-    -- returns-2
-    (λ c. search passes-no)
     -- derivation-byte-requires
     (λ c κs. search needs)
     -- premises-fit-requires
     (λ c κs. (search derivation-byte-at, search needs))
-    -- returns-3
+    -- returns-2
     (λ c. search passes-no)
     -- start-at-requires
     (λ c κs. search (frame-in, needs))
@@ -28,5 +26,7 @@ kept-passes-spec = tie.close (tie.spec
     (λ c κs. search start-in)
     -- all-kept-requires
     (λ c κs. (search needs, search chain-below, search chain-in))
+    -- returns-3
+    (λ c. search (passes-all, not-false))
     -- returns-4
-    (λ c. search (passes-all, not-false)))
+    (λ c. search passes-no))

@@ -1,7 +1,7 @@
 use borrow.Author.Needs.{needs}
 use Rattle.derivation_members.specs.Members.{chain-below}
-use Rattle.derivation_fresh.proofs.gathered.include_all.Statement.{statement}
-use Rattle.derivation_fresh.proofs.gathered.include_all.Tie as tie
+use Rattle.derivation_gathered.proofs.gathered.include_all.Statement.{statement}
+use Rattle.derivation_gathered.proofs.gathered.include_all.Tie as tie
 
 pub include-all-spec : {M : Type 1} → statement M
 include-all-spec = tie.close (tie.spec

@@ -5,8 +5,8 @@ use mathlib.Core.Path.{_≡_, refl, _∙_}
 use lib.ListN.{length}
 use Rattle.derivation_known.specs.Held.{SameRows, rows-same, rows-then}
 use Rattle.derivation_members.specs.Members.{frame-next}
-use Rattle.derivation_fresh.proofs.gathered.gather_added.Statement.{statement}
-use Rattle.derivation_fresh.proofs.gathered.gather_added.Tie as tie
+use Rattle.derivation_gathered.proofs.gathered.gather_added.Statement.{statement}
+use Rattle.derivation_gathered.proofs.gathered.gather_added.Tie as tie
 
 abbrev Inv-loop : tie.InvT-loop
 Inv-loop obligation second m keys frames known₀ d s f₀ known f = (length known ≡ length known₀) × (s ≤ f) × SameRows known₀ known

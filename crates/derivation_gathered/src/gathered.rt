@@ -1,19 +1,17 @@
-// The set of known facts, made anew of the records of the goal and the members at a depth: a constant that is not in it need not be looked for there.
-use crate::tops::top_of;
+// The records of the goal and the members at a depth are put into the set of known facts: a constant that is not in it need not be looked for there.
 use derivation_frames::frames;
 use derivation_frames::links;
 use derivation_known::set;
 use derivation_trees::keys;
 use reader::trees;
 ghost use mathlib.Core.Path.{_≡_};
-ghost use Prim.Native.Nat.{_<_, _≤_};
+ghost use Prim.Native.Nat.{_<_};
 ghost use lib.ListN.{length};
 ghost use Rattle.reader.specs.Words.{word};
 ghost use Rattle.derivation_trees.specs.Table.{Table};
 ghost use Rattle.derivation_frames.specs.Frames.{startAt, Framed};
 ghost use Rattle.derivation_known.specs.Held.{SameRows};
 ghost use Rattle.derivation_known.specs.Known.{Known};
-ghost use Rattle.derivation_fresh.specs.Tops.{Topped};
 
 // Puts the records of the chain's items in.
 fn gather_chain(
@@ -188,7 +186,7 @@ fn gather(
 }
 
 // The same, one after the other where that is quick and c is not in the set.
-fn extend(
+pub fn extend(
     obligation: &[u8],
     second: &[u8],
     m: usize,
@@ -209,30 +207,4 @@ fn extend(
         return;
     }
     gather(obligation, second, m, keys, frames, known, d, c);
-}
-
-// A number above the records of the members and the goal at depth d that c may be in. Where many records would have to be marked for c, some part of all there are,
-// those of the goal and the members are gathered first: where c is not among them, it needs no marks.
-pub fn settled_top(
-    obligation: &[u8],
-    second: &[u8],
-    m: usize,
-    keys: &[usize],
-    frames: &[usize],
-    known: &mut [usize],
-    d: usize,
-    c: usize,
-) -> usize
-    requires { ⌜ Table (word (now obligation) (now second) m) (now keys) × Framed (word (now obligation) (now second) m) (length (now keys)) (now frames) d × Known (word (now obligation) (now second) m) (now known) ⌝ }
-    ensures { λ r. ⌜ Topped (word (now (obligation .entry)) (now (second .entry)) m) (now (frames .entry)) c d r × (r ≤ length (now (keys .entry))) × Known (word (now (obligation .entry)) (now (second .entry)) m) (now (known .exit)) ⌝ }
-{
-    let top = top_of(obligation, second, m, keys, frames, known, d, c);
-    if top <= c {
-        return top;
-    }
-    if top - c < 4096 + keys.len() / 16 {
-        return top;
-    }
-    extend(obligation, second, m, keys, frames, known, d, c);
-    top_of(obligation, second, m, keys, frames, known, d, c)
 }

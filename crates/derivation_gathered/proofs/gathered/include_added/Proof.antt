@@ -6,8 +6,8 @@ use lib.ListN.{length}
 use Rattle.reader.specs.Words.{word}
 use Rattle.derivation_known.specs.Known.{Known}
 use Rattle.derivation_members.specs.Members.{frame-next}
-use Rattle.derivation_fresh.proofs.gathered.include_added.Statement.{statement}
-use Rattle.derivation_fresh.proofs.gathered.include_added.Tie as tie
+use Rattle.derivation_gathered.proofs.gathered.include_added.Statement.{statement}
+use Rattle.derivation_gathered.proofs.gathered.include_added.Tie as tie
 
 abbrev Inv-loop : tie.InvT-loop
 Inv-loop obligation second m keys frames known₀ d s f₀ known f = (length known ≡ length known₀) × (s ≤ f) × Known (word obligation second m) known

@@ -1,8 +1,8 @@
 use borrow.Author.Needs.{needs}
 use Rattle.derivation_members.specs.Members.{chain-below}
-use Rattle.derivation_fresh.specs.Gathered.{facts-gathered}
-use Rattle.derivation_fresh.proofs.gathered.gather.Statement.{statement}
-use Rattle.derivation_fresh.proofs.gathered.gather.Tie as tie
+use Rattle.derivation_gathered.specs.Gathered.{facts-gathered}
+use Rattle.derivation_gathered.proofs.gathered.gather.Statement.{statement}
+use Rattle.derivation_gathered.proofs.gathered.gather.Tie as tie
 
 pub gather-spec : {M : Type 1} → statement M
 gather-spec = tie.close (tie.spec

@@ -5,8 +5,8 @@ use lib.ListN.{length}
 use Rattle.reader.specs.Words.{word}
 use Rattle.derivation_forms.specs.Formed.{item-in, rest-in, rest-falls}
 use Rattle.derivation_known.specs.Known.{Known}
-use Rattle.derivation_fresh.proofs.gathered.include_chain.Statement.{statement}
-use Rattle.derivation_fresh.proofs.gathered.include_chain.Tie as tie
+use Rattle.derivation_gathered.proofs.gathered.include_chain.Statement.{statement}
+use Rattle.derivation_gathered.proofs.gathered.include_chain.Tie as tie
 
 abbrev Inv-loop : tie.InvT-loop
 Inv-loop obligation second m keys known₀ chain l₀ known l = (length known ≡ length known₀) × (l < length keys) × Known (word obligation second m) known

@@ -4,8 +4,8 @@ use mathlib.Core.Path.{_≡_, refl, _∙_}
 use lib.ListN.{length}
 use Rattle.derivation_forms.specs.Formed.{item-in, rest-in, rest-falls}
 use Rattle.derivation_known.specs.Held.{SameRows, rows-same, rows-then}
-use Rattle.derivation_fresh.proofs.gathered.gather_chain.Statement.{statement}
-use Rattle.derivation_fresh.proofs.gathered.gather_chain.Tie as tie
+use Rattle.derivation_gathered.proofs.gathered.gather_chain.Statement.{statement}
+use Rattle.derivation_gathered.proofs.gathered.gather_chain.Tie as tie
 
 abbrev Inv-loop : tie.InvT-loop
 Inv-loop obligation second m keys known₀ chain l₀ known l = (length known ≡ length known₀) × (l < length keys) × SameRows known₀ known
