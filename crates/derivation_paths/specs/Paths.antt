@@ -284,7 +284,15 @@ module _ (rd : Reader) (keys reaches : List ℕ) (x j d : ℕ) (tables : Tables 
       let under : d + binders (rd (j - 1) 0) ≡ e = ap (λ (k : ℕ). d + binders k) (sym (ep .kind-is)) ∙ sym ee in
       rw (as-node rd (length keys) j nj lj hj, as-node rd (length keys) x nx lx hx, ← first-body, ← second-body, ← third-body, ← first-whole, ← second-whole, ← third-whole)
       (node-same d (decoded rd t) _ _ _ _ _ _ _ _ _ _ kinds (λ h. heads .other refl (ep .kind-is ∙ h)) atoms
-      ∙ rw (under, key-tree (a .first) (ia .first-in), key-tree (a .second) (ia .second-in), key-tree (a .third) (ia .third-in), key-tree (b .first) (ib .first-in), key-tree (b .second) (ib .second-in), key-tree (b .third) (ib .third-in)) refl)
+      ∙ rw (
+        under,
+        key-tree (a .first) (ia .first-in),
+        key-tree (a .second) (ia .second-in),
+        key-tree (a .third) (ia .third-in),
+        key-tree (b .first) (ib .first-in),
+        key-tree (b .second) (ib .second-in),
+        key-tree (b .third) (ib .third-in),
+      ) refl)
 
   -- what is left of two parts of depth e or d
   leaves-part : (r : Left) (w z y f : ℕ) → 0 < w → w < 4 → z ≡ partAt rd false (j - 1) w → y ≡ partAt rd false (x - 1) w → r .whole ≡ getD keys y 0 →
