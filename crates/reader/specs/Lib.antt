@@ -22,7 +22,6 @@ pub mod DownLaws
 pub mod WordLaws
 pub mod KindLaws
 pub mod NameLaws
-pub mod AccentLaws
 pub mod TreeLaws
 pub mod SameLaws
 pub mod ChainLaws

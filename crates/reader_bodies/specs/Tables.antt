@@ -9,7 +9,7 @@ use Rattle.reader.specs.Kinds.{is_rule}
 use Rattle.reader.specs.Answers.{answer, accepted, placed, or_answer, first_fault}
 use Rattle.reader.specs.Places.{namings, naming_fault}
 use Rattle.reader_names.specs.Taken.{Names}
-use Rattle.reader_equality.specs.Tables.{Zeros, zeros_take, zeros_drop, zeros_join}
+use Rattle.reader_equality.specs.Tables.{zeros_take, zeros_drop, zeros_join}
 use Rattle.reader_naming.specs.Totals.{Cleared}
 use Rattle.reader_records.specs.Tables.{at_record, end_of, looked_up, names_to, Weighed, record_past, weighed_then}
 use Rattle.reader_bodies.specs.Places.{root_and_naming}

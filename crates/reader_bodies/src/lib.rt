@@ -1,2 +1,4 @@
 // The places of a file behind its header: records, roots, naming.
+#![tactic(auto)]
+
 pub mod bodies;

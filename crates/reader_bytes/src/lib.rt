@@ -1,4 +1,6 @@
 // The halves of a rule's byte: the number of parts and the number of premises, 15 for a number that varies.
+#![tactic(auto)]
+
 ghost use Rattle.std.specs.Prelude.{◌≡◌};
 ghost use Rattle.reader_bytes.specs.Bytes.{parts_of, premises_of};
 

@@ -5,7 +5,7 @@ use Rattle.std.proofs.Common.{ap, ◌∙◌, ne_eqb, eqb-true}
 use Rattle.std.proofs.lemmas.Bool.{false≢true, eqb-false}
 use Rattle.reader.specs.Tests.{either, every}
 use Rattle.reader.specs.Accents.{Decomposition, line, decompositions, composed}
-use Rattle.reader.specs.AccentLaws.{is_listed, marks, composed_passes}
+use Rattle.reader.proofs.AccentLaws.{is_listed, marks, composed_passes}
 
 -- the seven bytes that a number packs, the low one first
 unfoldable pub unpacked : ℕ → List ℕ

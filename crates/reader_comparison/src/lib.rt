@@ -1,3 +1,5 @@
 // Equality of trees in constant time: records are numbered so that equal trees share a number.
+#![tactic(auto)]
+
 pub mod compare;
 pub mod numbers;

@@ -51,38 +51,35 @@ pub record NamedBy (mode : ℕ) (rd : Reader) (i last : ℕ) : Type 0 where
   pub once : names_of mode rd namer i ≡ 1
   pub others : (j : ℕ) → 1 ≤ j → j ≤ last → (j ≡ namer → ⊥) → names_of mode rd j i ≡ 0
 
-pub named_by : (mode : ℕ) (rd : Reader) (i last : ℕ) → namings mode rd i last ≡ 1 → NamedBy mode rd i last
+-- where it stands, for any use of it
+found : {A : Type 0} (mode : ℕ) (rd : Reader) (i last : ℕ) → namings mode rd i last ≡ 1 →
+    ((namer : ℕ) → 1 ≤ namer → namer ≤ last → names_of mode rd namer i ≡ 1 →
+    ((j : ℕ) → 1 ≤ j → j ≤ last → (j ≡ namer → ⊥) → names_of mode rd j i ≡ 0) → A) → A
 unfolding namings
-named_by mode rd i zero h = absurd (omega arith)
-named_by mode rd i (suc n) h =
+found mode rd i zero h give = absurd (omega arith)
+found {A} mode rd i (suc n) h give =
     let both : names_of mode rd (suc n) i + namings mode rd i n ≡ 1 = sym (namings_step mode rd i n) ∙ h in
-    go both (namings mode rd i n) refl (λ e. named_by mode rd i n e)
+    go both (namings mode rd i n) refl (found {A = A} mode rd i n)
   where
-    here : names_of mode rd (suc n) i ≡ 1 → namings mode rd i n ≡ 0 → NamedBy mode rd i (suc n)
-    here one none = record {
-      namer = suc n;
-      given = omega arith;
-      within = omega arith;
-      once = one;
-      others = λ j p q differs. named_never mode rd i n none j p (omega arith);
-    }
+    others : (namer : ℕ) → names_of mode rd (suc n) i ≡ 0 → ((j : ℕ) → 1 ≤ j → j ≤ n → (j ≡ namer → ⊥) → names_of mode rd j i ≡ 0) →
+        (j : ℕ) → 1 ≤ j → j ≤ suc n → (j ≡ namer → ⊥) → (b : Bool) → eqb j (suc n) ≡ b → names_of mode rd j i ≡ 0
+    others namer none rest j p q differs true e = ap (λ (k : ℕ). names_of mode rd k i) (eqb-true j (suc n) e) ∙ none
+    others namer none rest j p q differs false e = let other = eqb-false j (suc n) e in rest j p (omega arith) differs
 
-    below : names_of mode rd (suc n) i ≡ 0 → NamedBy mode rd i n → NamedBy mode rd i (suc n)
-    below none r = record {
-      namer = r.namer;
-      given = r.given;
-      within = omega (arith, r.within);
-      once = r.once;
-      others = λ j p q differs. at j p q differs (eqb j (suc n)) refl;
-    }
-      where
-        at : (j : ℕ) → 1 ≤ j → j ≤ suc n → (j ≡ r.namer → ⊥) → (b : Bool) → eqb j (suc n) ≡ b → names_of mode rd j i ≡ 0
-        at j p q differs true e = ap (λ (k : ℕ). names_of mode rd k i) (eqb-true j (suc n) e) ∙ none
-        at j p q differs false e = let other = eqb-false j (suc n) e in r.others j p (omega arith) differs
+    go : names_of mode rd (suc n) i + namings mode rd i n ≡ 1 → (k : ℕ) → namings mode rd i n ≡ k → (namings mode rd i n ≡ 1 →
+        ((namer : ℕ) → 1 ≤ namer → namer ≤ n → names_of mode rd namer i ≡ 1 →
+        ((j : ℕ) → 1 ≤ j → j ≤ n → (j ≡ namer → ⊥) → names_of mode rd j i ≡ 0) → A) → A) → A
+    go both zero e ih =
+        let one : names_of mode rd (suc n) i ≡ 1 = omega arith in
+        give (suc n) (omega arith) (omega arith) one (λ j p q differs. named_never mode rd i n e j p (omega arith))
+    go both (suc k) e ih =
+        let none : names_of mode rd (suc n) i ≡ 0 = omega arith in
+        ih (omega arith) (λ namer given within once rest.
+        give namer given (omega arith) once (λ j p q differs. others namer none rest j p q differs (eqb j (suc n)) refl))
 
-    go : names_of mode rd (suc n) i + namings mode rd i n ≡ 1 → (k : ℕ) → namings mode rd i n ≡ k → (namings mode rd i n ≡ 1 → NamedBy mode rd i n) → NamedBy mode rd i (suc n)
-    go both zero e ih = here (omega arith) e
-    go both (suc k) e ih = below (omega arith) (ih (omega arith))
+pub named_by : (mode : ℕ) (rd : Reader) (i last : ℕ) → namings mode rd i last ≡ 1 → NamedBy mode rd i last
+named_by mode rd i last h =
+    found mode rd i last h (λ namer given within once others. record { namer = namer; given = given; within = within; once = once; others = others })
 
 -- a node named exactly once is the root and in no premise chain, or not the root and in one
 pub root_or_named : (mode : ℕ) (rd : Reader) (root i last : ℕ) → if_eq root i 1 0 + namings mode rd i last ≡ 1 →
@@ -92,7 +89,18 @@ root_or_named mode rd root i last h = go (eqb root i) refl
   where
     go : (b : Bool) → eqb root i ≡ b → ((root ≡ i) × (namings mode rd i last ≡ 0)) ⊎ ((root ≡ i → ⊥) × NamedBy mode rd i last)
     go true e = let own : if_eq {A = ℕ} root i 1 0 ≡ 1 = simp (if_eq, e) in inl (eqb-true root i e, omega arith)
-    go false e = let own : if_eq {A = ℕ} root i 1 0 ≡ 0 = simp (if_eq, e) in inr (eqb-false root i e, named_by mode rd i last (omega arith))
+    go false e = let own : if_eq {A = ℕ} root i 1 0 ≡ 0 = simp (if_eq, e) in
+        let one : namings mode rd i last ≡ 1 = omega arith in
+        inr (
+          eqb-false root i e,
+          found mode rd i last one (λ namer given within once others. record {
+            namer = namer;
+            given = given;
+            within = within;
+            once = once;
+            others = others;
+          }),
+        )
 
 -- a list whose elements' images include i once, at one place
 pub record OnceIn (f : ℕ → ℕ) (i : ℕ) (ls : List ℕ) : Type 0 where

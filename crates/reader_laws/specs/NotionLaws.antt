@@ -50,6 +50,7 @@ member_in t (u ∷ us) h = go (same u t) refl (member_in t us) h
 
 pub member_out : (t : Tree) (Γ : List Tree) → t ∈ Γ → member t Γ ≡ true
 unfolding member
+member_out t [] x' = elim x' [ ]
 member_out t (u ∷ us) (here e) = simp (member, ← e, same_self t)
 member_out t (u ∷ us) (there m) = go (same u t) (member_out t us m)
   where

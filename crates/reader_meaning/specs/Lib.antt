@@ -5,13 +5,3 @@ pub mod Typed
 pub mod WellFormed
 pub mod Refused
 pub mod Stops
-pub mod TreeForms
-pub mod TableLaws
-pub mod SpellingLaws
-pub mod TypedLaws
-pub mod RecordLaws
-pub mod FileLaws
-pub mod RecordRefusals
-pub mod Refusals
-pub mod StopLaws
-pub mod AnswerLaws

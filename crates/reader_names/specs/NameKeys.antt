@@ -12,7 +12,7 @@ use Rattle.reader.specs.Tests.{both, either, between, every, if_eq}
 use Rattle.reader.specs.Chains.{linked}
 use Rattle.reader.specs.Names.{name_of, name_space, name_bytes, is_letter, is_digit_or_underscore, single, accented, characters, name}
 use Rattle.reader.specs.Accents.{composed}
-use Rattle.reader.specs.AccentLaws.{composed_small}
+use Rattle.reader.proofs.AccentLaws.{composed_small}
 use Rattle.reader.specs.NameLaws.{Spells, spells}
 use Rattle.reader.specs.TreeLaws.{linked_zero}
 use Rattle.reader_equality.specs.declared.Key.{Key}

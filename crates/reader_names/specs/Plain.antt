@@ -11,7 +11,7 @@ use Rattle.reader.specs.Tests.{both, every, if_lt, if_true}
 use Rattle.reader.specs.Trees.{lower}
 use Rattle.reader.specs.Chains.{linked}
 use Rattle.reader.specs.TreeLaws.{linked_zero, linked_step_lem}
-use Rattle.reader.specs.Names.{name_of, bytes_of, record_bytes, trimmed, name_bytes, characters, name}
+use Rattle.reader.specs.Names.{name_of, bytes_of, record_bytes, trimmed, name_bytes, name}
 use Rattle.reader_view.specs.declared.Record.{Record}
 use Rattle.reader_view.specs.Records.{RecordIs}
 use Rattle.reader_characters.specs.Steps.{is_spelled}

@@ -5,7 +5,7 @@ use Rattle.std.proofs.lemmas.Bool.{false≢true}
 use Rattle.reader.specs.Tests.{both, either, between, every, if_lt}
 use Rattle.reader.specs.Names.{is_letter, is_digit_or_underscore, single, accented, characters}
 use Rattle.reader.specs.Accents.{composed}
-use Rattle.reader.specs.AccentLaws.{composed_large}
+use Rattle.reader.proofs.AccentLaws.{composed_large}
 use Rattle.reader.specs.NameLaws.{Spells, spells}
 use Rattle.reader_characters.specs.Steps.{is_spelled}
 use Rattle.reader_characters.specs.Spelling.{is_spelled_cons}

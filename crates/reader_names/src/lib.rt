@@ -1,4 +1,6 @@
 // Names of symbols: refusals 8 and 9, and the name's part of refusal 6.
+#![tactic(auto)]
+
 pub mod keys;
 pub mod plain;
 pub mod slots;

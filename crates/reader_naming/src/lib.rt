@@ -1,5 +1,7 @@
 // Refusal 12: each rule node is named exactly once, by a premise chain or the header's root.
 // A link that two chains have run over names its items twice already, so no chain runs over it a third time: the time is linear.
+#![tactic(auto)]
+
 ghost use Rattle.std.specs.Prelude.{◌≡◌, ◌+◌, ◌-◌, ◌<◌, ◌≤◌, min, length, get_or};
 ghost use Rattle.reader.specs.Words.{word};
 ghost use Rattle.reader.specs.Trees.{lower};

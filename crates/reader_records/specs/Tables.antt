@@ -1,16 +1,16 @@
 -- What the tables of names and weights hold once records were read, up to the first with a refusal.
-use Rattle.std.specs.Prelude.{ℕ, zero, suc, ◌+◌, ◌-◌, ◌<◌, ◌≤◌, ◌≡◌, List, Bool, ltb, length, get_or, set}
+use Rattle.std.specs.Prelude.{ℕ, ◌+◌, ◌-◌, ◌<◌, ◌≤◌, ◌≡◌, List, Bool, length, get_or, set}
 use Rattle.std.proofs.Math.Path.{refl}
-use Rattle.std.proofs.Common.{sym, ap, ◌∙◌, get_or-set_other, arith}
+use Rattle.std.proofs.Common.{◌∙◌, get_or-set_other, arith}
 use Rattle.std.proofs.Math.Bool.{true, false}
 use Rattle.std.proofs.Math.Dec.{eqb}
-use borrow.Author.Tests.{eq-eqb, ne_eqb, lt-ltb, le-ltb, eqb-false}
+use borrow.Author.Tests.{ne_eqb, lt-ltb, le-ltb, eqb-false}
 use Rattle.reader.specs.declared.Answer.{Answer}
 use Rattle.reader.specs.Words.{Reader}
 use Rattle.reader.specs.Tests.{demand, or_else, if_eq, if_lt}
 use Rattle.reader.specs.Trees.{tree}
 use Rattle.reader.specs.Weight.{weight}
-use Rattle.reader.specs.Answers.{answer, accepted, first_fault}
+use Rattle.reader.specs.Answers.{answer, accepted}
 use Rattle.reader.specs.Records.{kind_fits, ranges_fit, references_fit, chains_fit, weight_fits, name_spelled, name_is_free, typing_fits, words_fault, content_fault, record_fault}
 use Rattle.reader_names.specs.Taken.{Names}
 use Rattle.reader_weights.specs.Weights.{capped, Filled, filled_more}

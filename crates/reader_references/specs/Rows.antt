@@ -2,7 +2,7 @@
 use Rattle.std.specs.Prelude.{ℕ, ◌≡◌}
 use Rattle.reader.specs.Words.{Reader}
 use Rattle.reader.specs.Tests.{if_eq}
-use Rattle.reader.specs.Kinds.{layout, class, role, class_at, role_at}
+use Rattle.reader.specs.Kinds.{layout, role, class_at, role_at}
 use Rattle.reader.specs.KindLaws.{unpacked, class_in, first_in, second_in, third_in}
 use Rattle.reader_view.specs.declared.Record.{Record}
 use Rattle.reader_view.specs.Records.{RecordIs}

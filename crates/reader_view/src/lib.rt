@@ -1,9 +1,11 @@
 // "A small view holding two byte slices and m; few thin functions fetch one record's words."
+#![tactic(auto)]
+
 mod records;
 pub mod views;
 
 // Both files, read through one numbering: records 1 to m stand in the obligation, m + 1 on in the second file.
-#[derive(Drop)]
+#[derive(Clone, Copy)]
 pub struct View<'a, 'b> {
     pub obligation: &'a [u8],
     pub second: &'b [u8],
@@ -11,7 +13,7 @@ pub struct View<'a, 'b> {
 }
 
 // The four words of one record.
-#[derive(Drop)]
+#[derive(Clone, Copy)]
 pub struct Record {
     pub kind: usize,
     pub a: usize,

@@ -1,2 +1,4 @@
 // Weights of records, in a table: refusal 7.
+#![tactic(auto)]
+
 pub mod weights;

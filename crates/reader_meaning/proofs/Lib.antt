@@ -1,0 +1,11 @@
+pub mod TreeForms
+pub mod TableLaws
+pub mod SpellingLaws
+pub mod TypedLaws
+pub mod RecordLaws
+pub mod NamingLaws
+pub mod FileLaws
+pub mod RecordRefusals
+pub mod Refusals
+pub mod StopLaws
+pub mod AnswerLaws

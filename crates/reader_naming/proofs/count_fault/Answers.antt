@@ -1,0 +1,11 @@
+use Rattle.reader_naming.specs.Totals.{count_other, count_one, count_wrong}
+use Rattle.reader_naming.proofs.count_fault.Goals as goal
+
+pub returns-then-not-is_rule : goal.returns-then-not-is_rule
+returns-then-not-is_rule c = search count_other
+
+pub returns-then-entry-eq1 : goal.returns-then-entry-eq1
+returns-then-entry-eq1 c = search count_one
+
+pub returns-else-entry-eq1 : goal.returns-else-entry-eq1
+returns-else-entry-eq1 c = search count_wrong
