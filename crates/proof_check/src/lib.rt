@@ -1,3 +1,5 @@
 // The proof check: any two byte areas get the four numbers of the definition.
+#![tactic(auto)]
+
 pub mod check;
 mod start;

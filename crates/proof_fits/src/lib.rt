@@ -1,4 +1,6 @@
 // Refusal 15 of a proof's nodes: letters that stand for one thing are equal, replacement, types, closedness.
+#![tactic(auto)]
+
 ghost use Rattle.std.specs.Prelude.{◌≡◌, length};
 ghost use Rattle.reader.specs.Words.{word};
 ghost use Rattle.reader.specs.Tests.{every};

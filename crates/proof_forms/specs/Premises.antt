@@ -18,7 +18,7 @@ use Rattle.proof_references.specs.declared.References.{References}
 use Rattle.proof_references.specs.References.{ReferencesAre}
 use Rattle.reader_bytes.specs.Bytes.{premises_of}
 use Rattle.proof_bytes.specs.Bytes.{proof_byte}
-use Rattle.proof_bytes.specs.Rows.{proof_premises}
+use Rattle.proof_bytes.proofs.Rows.{proof_premises}
 
 -- the items of chain c are n rule nodes
 unfoldable pub are_nodes : Reader → ℕ → ℕ → Bool

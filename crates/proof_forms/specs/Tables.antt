@@ -12,7 +12,7 @@ use Rattle.proof_rules.specs.Rules.{row}
 use Rattle.proof_rules.specs.RowLaws.{NoRule, row_none, by_rule}
 use Rattle.reader_bytes.specs.Bytes.{byte_of, parts_of}
 use Rattle.proof_bytes.specs.Bytes.{proof_byte}
-use Rattle.proof_bytes.specs.Rows.{parts_none, proof_varies}
+use Rattle.proof_bytes.proofs.Rows.{parts_none, proof_varies}
 use Rattle.proof_forms.specs.Shapes.{shape_step, shape_of, shapes_of, instance_shapes}
 
 -- a byte for each part, the first's lowest: a kind, 32 and a class, or 64 and what stands under a ¬

@@ -3,12 +3,3 @@ pub mod TypedTrees
 pub mod LL
 pub mod Refused
 pub mod Statements
-pub mod Forms
-pub mod Rows
-pub mod Accepts
-pub mod TypedTreeLaws
-pub mod LLLaws
-pub mod LLTraps
-pub mod TypedStart
-pub mod AnswerLaws
-pub mod Theorems

@@ -7,7 +7,7 @@ use Rattle.std.proofs.lemmas.Bool.{false≢true}
 use borrow.Author.Tests.{eq-eqb, ne_eqb, eqb-true, eqb-false}
 use Rattle.reader.specs.Words.{Reader}
 use Rattle.reader.specs.Tests.{if_eq}
-use Rattle.reader.specs.Trees.{Tree, node, tree, same, kind_of, first_of, second_of, ¬ᵗ◌, ◌=ᵗ◌}
+use Rattle.reader.specs.Trees.{Tree, tree, same, kind_of, first_of, second_of, ¬ᵗ◌, ◌=ᵗ◌}
 use Rattle.reader.specs.TreeLaws.{same_equal, same_self}
 use Rattle.reader_equality.specs.Least.{least, least_equal}
 

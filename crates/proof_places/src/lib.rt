@@ -1,5 +1,7 @@
 // Have the places of index 0 in a record one type? What has no index is passed at once. What is found of a record at the depth of its last index is
 // remembered in a lent table, and it is not walked twice there.
+#![tactic(auto)]
+
 ghost use Rattle.std.specs.Prelude.{◌≡◌, ◌+◌, ◌<◌, ◌≤◌, length};
 ghost use Rattle.reader.specs.Words.{word};
 ghost use Rattle.reader.specs.Trees.{tree};

@@ -1,4 +1,6 @@
 // A record as the walk wants it, fetched once: its kind, and what its words refer to.
+#![tactic(auto)]
+
 ghost use Rattle.std.specs.Prelude.{◌≡◌};
 ghost use Rattle.reader.specs.Words.{word};
 ghost use Rattle.reader.specs.Tests.{if_lt};
@@ -7,7 +9,7 @@ ghost use Rattle.proof_references.specs.References.{ReferencesAre};
 use reader_view::views;
 
 // The kind of a record and the smaller records that its words 1 to 3 refer to, 0 where a word is no such reference.
-#[derive(Drop)]
+#[derive(Clone, Copy)]
 pub struct References {
     pub kind: usize,
     pub first: usize,

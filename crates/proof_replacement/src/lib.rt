@@ -1,4 +1,6 @@
 // Replacement: is a record what another one is with index 0 replaced? What has no index to replace is compared at once. What is found of a record at the depth of its last index is remembered in a lent table, and it is not walked twice there.
+#![tactic(auto)]
+
 ghost use Rattle.std.specs.Prelude.{◌≡◌, false, ◌+◌, ◌<◌, ◌≤◌, length};
 ghost use Rattle.reader.specs.Words.{word};
 ghost use Rattle.reader.specs.Trees.{tree, same};

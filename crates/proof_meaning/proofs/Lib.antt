@@ -1,0 +1,11 @@
+pub mod Forms
+pub mod Rows
+pub mod Accepts
+pub mod WalkMeans
+pub mod TypeLaws
+pub mod TypedTreeLaws
+pub mod LLLaws
+pub mod LLTraps
+pub mod TypedStart
+pub mod AnswerLaws
+pub mod Theorems

@@ -1,0 +1,9 @@
+use native.Mathlib.Omega.{arith}
+use Rattle.proof_replacement.specs.Fits.{deeper_binder, deeper_other}
+use Rattle.proof_replacement.proofs.deeper_at.Goals as goal
+
+pub returns-then-word_at-eq19 : goal.returns-then-word_at-eq19
+returns-then-word_at-eq19 c = (search deeper_binder, omega arith)
+
+pub returns-else-word_at-eq19 : goal.returns-else-word_at-eq19
+returns-else-word_at-eq19 c = (search deeper_other, omega arith)
