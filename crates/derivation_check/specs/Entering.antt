@@ -1,14 +1,13 @@
 -- The walk over a pair that passes places 1 to 12, and the tables that it is lent.
 use Rattle.std.specs.Prelude.{ℕ, zero, suc, ◌+◌, ◌<◌, ◌≤◌, ◌≡◌, refl, List, Bool, true, false, length, take}
 use Rattle.std.proofs.Common.{sym, ap, ◌∙◌, length-take-le, arith}
-use Rattle.std.proofs.lemmas.Bool.{false≢true}
 use Rattle.std.proofs.lemmas.List.{length-replicate}
 use borrow.Author.Tests.{eq-eqb, ne_eqb}
 use Rattle.reader.specs.declared.Answer.{Answer}
 use Rattle.reader.specs.Words.{Reader, word_of, word, record_count}
 use Rattle.reader.specs.Tests.{if_eq}
 use Rattle.reader.specs.Kinds.{is_rule}
-use Rattle.reader.specs.Answers.{accepted, or_answer}
+use Rattle.reader.specs.Answers.{or_answer}
 use Rattle.reader.specs.Places.{most_records, count_of, root_of, reading}
 use Rattle.reader_bodies.specs.Places.{zeros}
 use Rattle.reader_laws.specs.File.{ReadObligation, ReadSecond, beside, last_of, reading_parts, length_parts, header_parts, counts_parts}

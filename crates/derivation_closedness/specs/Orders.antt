@@ -1,6 +1,6 @@
 -- The order of a tree, and the ways out of the code that computes it for a record. A recursion into all parts of a tree but one of the largest order, which a
 -- loop takes, is no deeper than the tree's order: a part whose order is the tree's own is the only such part, and the others have less.
-use Rattle.std.specs.Prelude.{ℕ, zero, suc, ◌+◌, ◌/◌, ◌<◌, ◌≤◌, ◌≡◌, List, Bool, ltb, length, get_or}
+use Rattle.std.specs.Prelude.{ℕ, zero, suc, ◌+◌, ◌<◌, ◌≤◌, ◌≡◌, Bool, ltb}
 use Rattle.std.proofs.Math.Path.{refl, sym}
 use Rattle.std.proofs.Common.{◌∙◌, arith}
 use Rattle.std.proofs.Math.Bool.{true, false}

@@ -1,2 +1,4 @@
 // Letters, replacement and closedness: refusal 15.
+#![tactic(auto)]
+
 pub mod fits;

@@ -24,7 +24,7 @@ use Rattle.derivation_frames.specs.Frames.{chain_trees}
 use Rattle.derivation_forms.specs.Forms.{lower_most}
 use Rattle.reader_bytes.specs.Bytes.{parts_of}
 use Rattle.derivation_bytes.specs.Bytes.{derivation_byte}
-use Rattle.derivation_bytes.specs.Rows.{derivation_varies}
+use Rattle.derivation_bytes.proofs.Rows.{derivation_varies}
 use Rattle.derivation_tables.specs.Tables.{shapes_of, column, one_of, shapes_are, goal_shapes_are}
 
 -- a formula

@@ -1,14 +1,13 @@
 -- Bits of a word, and a word with one bit more.
-use Prim.Native.Nat.{ℕ, zero, suc, ◌+◌, ◌*◌, ◌-◌, ◌/◌, ◌%◌, ◌^◌, ◌<◌, ◌≤◌, max}
+use Prim.Native.Nat.{ℕ, ◌+◌, ◌*◌, ◌-◌, ◌/◌, ◌%◌, ◌^◌, ◌<◌, ◌≤◌, max}
 use Rattle.std.specs.Prelude.{◌≡◌, refl, Bool, true, false, eqb, ltb}
-use Rattle.std.proofs.Common.{sym, ap, ◌∙◌, pow_pos, pow-add, shl_exact, one-mul}
-use Rattle.std.proofs.lemmas.Bool.{false≢true}
+use Rattle.std.proofs.Common.{ap, ◌∙◌, pow_pos, pow-add, shl_exact, one-mul}
 use Rattle.std.specs.Int.Bits.{bit_or, or_step}
 use Rattle.std.proofs.lemmas.Nat.{or_shr, shl-shr}
 use Rattle.std.proofs.Math.Pow.{pow-lt}
 use Rattle.std.proofs.Math.Nat.{div_self, div-eq_of_lt, zero-div, le-max_left, le-max_right, max-le}
 use native.Mathlib.Omega.{arith}
-use borrow.Author.Tests.{eqb-true, eqb-false, eq-eqb, ltb-true, ltb-false}
+use borrow.Author.Tests.{eqb-true, eq-eqb, ltb-true, ltb-false}
 
 -- bit k of word v
 unfoldable pub bit_at : ℕ → ℕ → Bool

@@ -8,7 +8,7 @@ use Rattle.reader_view.specs.Records.{RecordIs}
 use Rattle.reader_equality.specs.declared.Parts.{Parts}
 use Rattle.reader_equality.specs.Keys.{part_at, part_in_lem}
 use Rattle.reader_equality.specs.Shapes.{PartsAre}
-use Rattle.derivation_known.specs.Held.{held, Puts, ClosedFrom, part_most}
+use Rattle.derivation_known.specs.Held.{held, Puts, part_most}
 use Rattle.derivation_known.specs.Known.{Known, facts_rows}
 
 -- the facts hold as before, no record is taken out, and r says that record j is in

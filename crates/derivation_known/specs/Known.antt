@@ -9,7 +9,7 @@ use Rattle.std.proofs.lemmas.Bool.{false≢true}
 use borrow.Author.Tests.{eqb-true, eqb-false, ne_eqb, not-true, not-false}
 use Rattle.reader.specs.Words.{Reader}
 use Rattle.reader.specs.Tests.{both, either}
-use Rattle.reader.specs.Trees.{Tree, leaf, same}
+use Rattle.reader.specs.Trees.{same}
 use Rattle.reader.specs.TreeLaws.{below}
 use Rattle.reader.specs.Variables.{replaced, occurs}
 use Rattle.reader_equality.specs.Keys.{part_at, part_below}

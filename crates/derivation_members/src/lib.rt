@@ -1,2 +1,4 @@
 // Is a tree among the sequent's members, or the only one?
+#![tactic(auto)]
+
 pub mod members;

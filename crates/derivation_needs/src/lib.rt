@@ -1,2 +1,4 @@
 // What a rule needs in the sequent: refusal 14.
+#![tactic(auto)]
+
 pub mod needs;

@@ -1,14 +1,13 @@
 -- BR2 whose parts pass one run along their chain has no fault.
-use Rattle.std.specs.Prelude.{ℕ, ◌≤◌, ◌≡◌, List, Bool, false, leb, length}
+use Rattle.std.specs.Prelude.{ℕ, ◌≤◌, ◌≡◌, List, Bool, false, length}
 use Rattle.std.proofs.Math.Path.{refl}
-use Rattle.std.proofs.Common.{sym, ap, ◌∙◌, arith}
+use Rattle.std.proofs.Common.{sym, ◌∙◌, arith}
 use Rattle.std.proofs.Math.Bool.{true}
 use Rattle.std.proofs.lemmas.Bool.{false≢true}
 use Rattle.reader.specs.Words.{Reader}
-use Rattle.reader.specs.Tests.{both, if_eq, if_lt}
+use Rattle.reader.specs.Tests.{both, if_lt}
 use Rattle.reader.specs.TestLaws.{demand_go, or_go}
 use Rattle.reader.specs.Trees.{Tree, lower}
-use Rattle.reader.specs.Chains.{linked}
 use Rattle.reader_bytes.specs.Bytes.{byte_of, parts_of}
 use Rattle.derivation_rules.specs.Erase.{bare_parts}
 use Rattle.derivation_rules.specs.Check.{node_fault}
@@ -19,7 +18,7 @@ use Rattle.derivation_tables.specs.Tables.{column}
 use Rattle.derivation_forms.specs.Formed.{parts_formed, formed_varying, goal_any}
 use Rattle.derivation_members.specs.Needs.{needs_parts, only_none}
 use Rattle.derivation_fits.specs.Fits.{node_fits, letters_none, fits_other}
-use Rattle.derivation_fresh.specs.Fresh.{node_fresh, fresh_none}
+use Rattle.derivation_fresh.specs.Fresh.{fresh_none}
 use Rattle.derivation_kept.specs.Order.{order_held}
 use Rattle.derivation_kept.specs.Kept.{AllKept}
 use Rattle.derivation_nodes.specs.Rooms.{node_room, room_parts}

@@ -16,12 +16,13 @@ use Rattle.derivation_rules.specs.RowLaws.{by_rule}
 use Rattle.derivation_frames.specs.Frames.{goal_at, count_at, members_at, state_of, Framed}
 use Rattle.reader_bytes.specs.Bytes.{premises_of}
 use Rattle.derivation_bytes.specs.Bytes.{derivation_byte}
-use Rattle.derivation_bytes.specs.Rows.{derivation_premises}
+use Rattle.derivation_bytes.proofs.Rows.{derivation_premises}
 use Rattle.derivation_tables.specs.Tables.{column, column_none}
 use Rattle.derivation_forms.specs.Formed.{parts_formed, goal_shaped, parts_formed_lem, goal_shaped_lem}
 use Rattle.derivation_members.specs.Needs.{needs_held, only_goals, needs_held_lem, only_goals_lem}
 use Rattle.derivation_fits.specs.Fits.{node_fits, node_fits_lem}
-use Rattle.derivation_fresh.specs.Fresh.{node_fresh, node_fresh_lem}
+use Rattle.derivation_fresh.specs.Fresh.{node_fresh}
+use Rattle.derivation_fresh.proofs.FreshLaws.{node_fresh_lem}
 use Rattle.derivation_nodes.specs.Rooms.{node_room, node_room_lem}
 
 -- the tables beside the frames

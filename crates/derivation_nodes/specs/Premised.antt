@@ -13,7 +13,7 @@ use Rattle.reader.specs.Words.{Reader}
 use Rattle.reader.specs.Tests.{demand, every, if_eq}
 use Rattle.reader.specs.TestLaws.{eq_yes, eq_no}
 use Rattle.reader.specs.Trees.{Tree, lower}
-use Rattle.reader.specs.Chains.{linked, items, parts, premises}
+use Rattle.reader.specs.Chains.{linked, items, parts}
 use Rattle.reader.specs.TreeLaws.{lower_below}
 use Rattle.reader.specs.ChainLaws.{linked_length, linked_none}
 use Rattle.derivation_rules.specs.Erase.{bare_tree, bare_parts}

@@ -1,5 +1,5 @@
 -- refusal 17: by the number of members and the table, and the ways out of the code.
-use Rattle.std.specs.Prelude.{ℕ, ◌+◌, ◌-◌, ◌≤◌, ◌≡◌, List, [], ◌∷◌, ◌++◌, Bool}
+use Rattle.std.specs.Prelude.{ℕ, ◌+◌, ◌≤◌, ◌≡◌, List, [], ◌∷◌, ◌++◌, Bool}
 use Rattle.std.proofs.Math.Path.{refl, sym, ap}
 use Rattle.std.proofs.Common.{◌∙◌, length-append, arith, leb-true, le-leb}
 use Rattle.std.proofs.Math.Bool.{true, false}
@@ -17,7 +17,7 @@ use Rattle.derivation_rules.specs.Check.{few_members}
 use Rattle.derivation_rules.specs.RowLaws.{row_none, by_rule}
 use Rattle.reader_bytes.specs.Bytes.{byte_of, premises_of}
 use Rattle.derivation_bytes.specs.Bytes.{derivation_byte}
-use Rattle.derivation_bytes.specs.Rows.{premises_none}
+use Rattle.derivation_bytes.proofs.Rows.{premises_none}
 use Rattle.derivation_tables.specs.Tables.{column}
 
 -- the premises of node n have room beside h members; those of BR2 are its parts

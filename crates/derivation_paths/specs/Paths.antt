@@ -1,5 +1,5 @@
 -- What is left of a question of replacement down a path of records, and the ways out of the code that follows it.
-use Rattle.std.specs.Prelude.{ℕ, ◌+◌, ◌-◌, ◌/◌, ◌%◌, ◌<◌, ◌≤◌, ◌≡◌, List, Bool, not, ltb, length}
+use Rattle.std.specs.Prelude.{ℕ, ◌+◌, ◌-◌, ◌%◌, ◌<◌, ◌≤◌, ◌≡◌, List, Bool, not, ltb, length}
 use Rattle.std.proofs.Math.Path.{refl, sym, ap}
 use Rattle.std.proofs.Common.{◌∙◌, arith}
 use Rattle.std.proofs.Math.Bool.{true, false}
@@ -20,7 +20,6 @@ use Rattle.reader_equality.specs.Keys.{part_at, part_entry, atom_in, part_in, at
 use Rattle.reader_equality.specs.Shapes.{PartsAre}
 use Rattle.derivation_rules.specs.Erase.{bare_tree}
 use Rattle.derivation_trees.specs.Keys.{negations_of, body_of, rank, decoded, Normal}
-use Rattle.derivation_trees.specs.Table.{Table}
 use Rattle.derivation_trees.specs.Parts.{Part, part_of, as_node, record_in, record_part}
 use Rattle.derivation_known.specs.Known.{fits}
 use Rattle.derivation_paths.specs.declared.Left.{Left}

@@ -40,6 +40,7 @@ fn key_records(obligation: &[u8], derivation: &[u8], m: usize, keys: &mut [usize
 
 // What comes before the walk and needs large tables: places 1 to 12, or the table of keys. One function for both, called at two places: the compiler
 // puts one that is called at one place into its caller, and these tables, 2.4 MB, would then stand beside the walk's stack.
+#[inline(never)]
 pub fn prepare(
     obligation: &[u8],
     derivation: &[u8],

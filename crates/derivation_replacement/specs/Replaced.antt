@@ -1,5 +1,5 @@
 -- Replacement tested on keys, as one step, and the ways out of the code that tests it.
-use Rattle.std.specs.Prelude.{ℕ, zero, suc, ◌+◌, ◌<◌, ◌≤◌, ◌≡◌, List, Bool, not, length}
+use Rattle.std.specs.Prelude.{ℕ, zero, suc, ◌+◌, ◌<◌, ◌≤◌, ◌≡◌, Bool, not}
 use Rattle.std.proofs.Math.Path.{refl}
 use Rattle.std.proofs.Common.{sym, ◌∙◌, arith}
 use Rattle.std.proofs.Math.Bool.{true, false, false≢true}
@@ -15,7 +15,6 @@ use Rattle.derivation_trees.specs.Keys.{negations_of, body_of, rank, decoded, No
 use Rattle.derivation_trees.specs.Makers.{stands_none}
 use Rattle.derivation_trees.specs.Parts.{Part, part_of, as_none}
 use Rattle.derivation_known.specs.Known.{fits}
-use Rattle.derivation_paths.specs.Tables.{Tables}
 
 -- `fits` for part w of each tree, where the index stands deeper below a binder
 unfoldable pub part_depth : Reader → ℕ → ℕ → ℕ → ℕ

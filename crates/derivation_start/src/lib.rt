@@ -1,2 +1,4 @@
 // The start of a walk over a derivation: the root's frame.
+#![tactic(auto)]
+
 pub mod start;

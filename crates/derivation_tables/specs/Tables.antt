@@ -14,7 +14,7 @@ use Rattle.derivation_trees.specs.Shapes.{shape_of}
 use Rattle.derivation_rules.specs.RowLaws.{NoRule, row_none, by_rule}
 use Rattle.reader_bytes.specs.Bytes.{byte_of, parts_of}
 use Rattle.derivation_bytes.specs.Bytes.{derivation_byte}
-use Rattle.derivation_bytes.specs.Rows.{parts_none}
+use Rattle.derivation_bytes.proofs.Rows.{parts_none}
 
 -- A form names a tree of a node: 4 times the source and a step. Source 1 is the goal, from 2 on the parts; step 0 itself, 1 its first part, 2 its second,
 -- 3 its negation. Form 0 is none.

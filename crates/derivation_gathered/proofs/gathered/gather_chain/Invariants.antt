@@ -1,0 +1,11 @@
+use Prim.Native.Nat.{◌<◌}
+use mathlib.Core.Path.{◌≡◌}
+use lib.ListN.{length}
+use Rattle.derivation_known.specs.Held.{SameRows}
+use Rattle.derivation_gathered.proofs.gathered.gather_chain.Given as goal
+
+abbrev pub invariant-loop-l : goal.invariant-loop-l
+invariant-loop-l l = (length l.known ≡ length l.initial.known) × (l.l < length l.keys) × SameRows l.initial.known l.known
+
+abbrev pub decreases-loop-l : goal.decreases-loop-l
+decreases-loop-l l = l.l

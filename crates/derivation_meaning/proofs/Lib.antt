@@ -1,0 +1,15 @@
+pub mod MemberLaws
+pub mod EraseLaws
+pub mod Instances
+pub mod Plain
+pub mod RowLaws
+pub mod Cases
+pub mod Sound
+pub mod Complete
+pub mod Formed
+pub mod Start
+pub mod DerivableLaws
+pub mod WalkMeans
+pub mod AnswerLaws
+pub mod Theorems
+pub mod Intro
