@@ -16,12 +16,12 @@ use Rattle.reader.specs.Places.{count_of, root_of}
 use Rattle.reader.specs.Walk.{and_then}
 use Rattle.reader_laws.specs.File.{beside}
 use Rattle.proof_rules.specs.Check.{proof_answer}
-use Rattle.proof_meaning.specs.Theorems.{proof_accepted}
+use Rattle.proof_meaning.proofs.Theorems.{proof_accepted}
 use Rattle.derivation_rules.specs.Check.{derivation_answer}
 use Rattle.translation_rules.specs.Output.{written}
 use Rattle.translation_rules.specs.Bytes.{derivation_bytes}
 use Rattle.translation_rules.specs.Check.{room_for, translation_answer}
-use Rattle.translation_addresses.specs.Addresses.{written_fits}
+use Rattle.translation_addresses.proofs.Addresses.{written_fits}
 use Rattle.translation_meaning.specs.Translates.{Translates}
 use Rattle.translation_meaning.specs.Accepted.{obligation_few, proof_few, long, range, root_rule, bytes_are}
 use Rattle.translation_meaning.specs.Theorems.{translation_accepted}

@@ -12,7 +12,7 @@ use Rattle.reader.specs.Members.{◌▹◌}
 use Rattle.reader.specs.Notions.{◌∈◌, IsFormula, ◌⟨◌⟩, NoIndex}
 use Rattle.derivation_rules.specs.Erase.{bare_tree}
 use Rattle.derivation_meaning.specs.Derives.{Derives}
-use Rattle.derivation_meaning.specs.Intro.{in_longer, in_last}
+use Rattle.derivation_meaning.proofs.Intro.{in_longer, in_last}
 use Rattle.translation_rules.specs.Templates.{lines32, lines33, lines34, lines35, lines36, lines37, lines38, lines39, lines40, lines41}
 use Rattle.translation_rules.specs.Output.{Letters, value, Block}
 use Rattle.translation_blocks.specs.Build.{line_is, Room, room_0, room_1, room_2, level_2, level_3, not_tree, equal_tree, index_tree}

@@ -12,7 +12,7 @@ use Rattle.reader.specs.Notions.{◌∈◌, IsTerm, IsFormula, ◌⟨◌⟩, NoI
 use Rattle.reader_laws.specs.Scan.{when_less}
 use Rattle.derivation_rules.specs.Erase.{⌊◌⌋, bare, untyped, is_type, bare_tree, constantᵇ, ∀ᵇ}
 use Rattle.derivation_meaning.specs.Derives.{DerivationNode, Derives}
-use Rattle.derivation_meaning.specs.Intro.{no_links, one_link, link_more, node_at}
+use Rattle.derivation_meaning.proofs.Intro.{no_links, one_link, link_more, node_at}
 use Rattle.translation_rules.specs.Templates.{Line}
 use Rattle.translation_rules.specs.Output.{Letters, value, line_word, no_line, Block}
 

@@ -14,7 +14,7 @@ use Rattle.reader.specs.Members.{◌▹◌}
 use Rattle.reader.specs.Notions.{◌∈◌, IsTerm, IsFormula, ◌⟨◌⟩, IndicesBelow, NoIndex, OpenInZero, Fresh}
 use Rattle.derivation_rules.specs.Erase.{bare_tree, constantᵇ, ∀ᵇ}
 use Rattle.derivation_meaning.specs.Derives.{Derives}
-use Rattle.derivation_meaning.specs.Intro.{in_longer, in_last}
+use Rattle.derivation_meaning.proofs.Intro.{in_longer, in_last}
 use Rattle.translation_rules.specs.Templates.{lines_of_start, lines42, lines43, lines44, lines45, lines46}
 use Rattle.translation_rules.specs.Output.{Letters, value, Block}
 use Rattle.translation_blocks.specs.Build.{Is, line_is, Room, Limits, room_0, room_1, room_2, level_3, equal_tree}

@@ -15,7 +15,7 @@ use Rattle.reader_laws.specs.Scan.{when_true}
 use Rattle.translation_rules.specs.Templates.{template}
 use Rattle.translation_rules.specs.Output.{line_word, no_line, size, before, base_of, letters_of}
 use Rattle.translation_rules.specs.Bytes.{bytes16, lines_bytes, block_bytes, blocks_bytes, copy_bytes, copies_bytes}
-use Rattle.translation_addresses.specs.Addresses.{base_grows, size_rule}
+use Rattle.translation_addresses.proofs.Addresses.{base_grows, size_rule}
 use Rattle.translation_bytes.specs.Records.{word_front, word_behind, word_part, length_part, length_joined, record_word}
 use Rattle.translation_bytes.specs.Lines.{BlocksFit, template_kind, lines_length, lines_word}
 

@@ -14,7 +14,7 @@ use Rattle.reader_laws.specs.Pair.{word_first, word_second}
 use Rattle.translation_rules.specs.Templates.{template, lines_of_start}
 use Rattle.translation_rules.specs.Output.{size, before, base_of, start_of, written, letters_of, letters_of_start, copied, Block, Translated}
 use Rattle.translation_rules.specs.Bytes.{lines_bytes, blocks_bytes, copies_bytes, header_bytes, derivation_bytes}
-use Rattle.translation_addresses.specs.Addresses.{base_start, size_rule, last_is}
+use Rattle.translation_addresses.proofs.Addresses.{base_start, size_rule, last_is}
 use Rattle.translation_bytes.specs.Records.{word_front, word_behind, length_joined, record_word}
 use Rattle.translation_bytes.specs.Lines.{BlocksFit, StartFits, start_kind, lines_length, lines_word}
 use Rattle.translation_bytes.specs.Parts.{copy_word, copies_length, copies_word, blocks_length, blocks_word}

@@ -5,8 +5,8 @@ use Rattle.reader.specs.Trees.{Tree}
 use Rattle.reader.specs.Members.{◌▹◌}
 use Rattle.reader.specs.Notions.{◌∈◌, here, there, Occurs, Fresh}
 use Rattle.derivation_rules.specs.Erase.{⌊◌⌋}
-use Rattle.derivation_meaning.specs.EraseLaws.{occurs_erase}
-use Rattle.derivation_meaning.specs.Intro.{in_map}
+use Rattle.derivation_meaning.proofs.EraseLaws.{occurs_erase}
+use Rattle.derivation_meaning.proofs.Intro.{in_map}
 
 -- a member, types removed
 pub member_bare : {Γ : List Tree} (P : Tree) {Q : Tree} → ⌊ P ⌋ ≡ Q → P ∈ Γ → Q ∈ map ⌊◌⌋ Γ

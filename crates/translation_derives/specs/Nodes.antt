@@ -16,14 +16,14 @@ use Rattle.reader_laws.specs.Record.{Sound}
 use Rattle.derivation_rules.specs.Erase.{⌊◌⌋, bare_tree, ∀ᵇ, constantᵇ}
 use Rattle.derivation_meaning.specs.Formulas.{Formula, OfLanguage}
 use Rattle.derivation_meaning.specs.Derives.{Derives}
-use Rattle.derivation_meaning.specs.Instances.{instance_formula}
-use Rattle.derivation_meaning.specs.EraseLaws.{erase_false, erase_true, erase_and, erase_implies, erase_not, erase_all, erase_equal, erase_constant}
-use Rattle.derivation_meaning.specs.EraseLaws.{erase_for_all_types, indices_erase, occurs_erase, replaced_erase, formula_erase, term_erase}
+use Rattle.derivation_meaning.proofs.Instances.{instance_formula}
+use Rattle.derivation_meaning.proofs.EraseLaws.{erase_false, erase_true, erase_and, erase_implies, erase_not, erase_all, erase_equal, erase_constant}
+use Rattle.derivation_meaning.proofs.EraseLaws.{erase_for_all_types, indices_erase, occurs_erase, replaced_erase, formula_erase, term_erase}
 use Rattle.reader_meaning.specs.Signs.{constantᵗ, for_typesᵗ}
 use Rattle.proof_meaning.specs.Proves.{ProofNode, Fits, Proves}
 use Rattle.translation_rules.specs.Templates.{template}
 use Rattle.translation_rules.specs.Output.{Block, size, base_of, end_of, letters_of, Translated}
-use Rattle.translation_addresses.specs.Addresses.{size_rule, base_after, end_is, end_below}
+use Rattle.translation_addresses.proofs.Addresses.{size_rule, base_after, end_is, end_below}
 use Rattle.translation_reached.specs.Reached.{proves_rule, premise_below}
 use Rattle.translation_copies.specs.Outputs.{output_bottom}
 use Rattle.translation_blocks.specs.Build.{Room}

@@ -16,7 +16,7 @@ use Rattle.reader_laws.specs.Parts.{equal_second, for_all_types_tree, for_all_ty
 use Rattle.reader_laws.specs.Classes.{class_of_kind}
 use Rattle.reader_laws.specs.Agree.{Within, within_head, within_tail, lower_most, items_within}
 use Rattle.derivation_rules.specs.Erase.{⌊◌⌋, bare_tree}
-use Rattle.derivation_meaning.specs.Formed.{tree_kind}
+use Rattle.derivation_meaning.proofs.Formed.{tree_kind}
 use Rattle.proof_meaning.specs.Proves.{ProofNode}
 use Rattle.translation_rules.specs.Output.{copied}
 use Rattle.translation_copies.specs.Outputs.{output_tree}

@@ -11,7 +11,7 @@ use Rattle.reader.specs.Places.{count_of, root_of}
 use Rattle.translation_rules.specs.Templates.{lines_of_start}
 use Rattle.translation_rules.specs.Output.{value, before, end_of, start_of, written, letters_of_start}
 use Rattle.translation_rules.specs.Bytes.{bytes16, lines_bytes, blocks_bytes, copies_bytes, header_bytes, derivation_bytes}
-use Rattle.translation_addresses.specs.Addresses.{last_is, written_most, written_fits}
+use Rattle.translation_addresses.proofs.Addresses.{last_is, written_most, written_fits}
 use Rattle.translation_values.specs.Ends.{Ends}
 use Rattle.translation_write.specs.Put.{put, put_put}
 use Rattle.translation_write.specs.Nodes.{Room, length_blocks}

@@ -1,2 +1,4 @@
 // The templates of the translation as numbers.
+#![tactic(auto)]
+
 pub mod lines;

@@ -1,9 +1,9 @@
 -- An accepted pair, and the file that its translation is: what the laws of copies, blocks, bytes and naming ask, from the two checks' laws.
-use Rattle.std.specs.Prelude.{ℕ, ◌+◌, ◌-◌, ◌*◌, ◌%◌, ◌<◌, ◌≤◌, ◌≡◌, refl, List, Bool, true, false, ltb}
+use Rattle.std.specs.Prelude.{ℕ, ◌+◌, ◌*◌, ◌%◌, ◌<◌, ◌≤◌, ◌≡◌, refl, List, Bool, true, false, ltb}
 use Rattle.std.proofs.Common.{sym, ap, subst, ⊎_elim, arith, eq-eqb, le-leb, ltb-true, ltb-false}
 use Rattle.std.proofs.Math.ListN.{length}
 use Rattle.reader.specs.declared.Answer.{Answer}
-use Rattle.reader.specs.Words.{Reader, word_of, word, record_count}
+use Rattle.reader.specs.Words.{Reader, word_of, record_count}
 use Rattle.reader.specs.Tests.{if_eq}
 use Rattle.reader.specs.Kinds.{is_rule}
 use Rattle.reader.specs.Trees.{Tree}
@@ -16,13 +16,13 @@ use Rattle.reader_laws.specs.Pair.{pair_sound, rule_range}
 use Rattle.proof_rules.specs.Check.{proof_answer}
 use Rattle.proof_meaning.specs.Proves.{Proves}
 use Rattle.proof_meaning.specs.Statements.{RootProves}
-use Rattle.proof_meaning.specs.AnswerLaws.{read_and_walked, accepted_means}
+use Rattle.proof_meaning.proofs.AnswerLaws.{read_and_walked, accepted_means}
 use Rattle.derivation_meaning.specs.Formulas.{OfLanguage}
-use Rattle.derivation_meaning.specs.Start.{files_formed}
+use Rattle.derivation_meaning.proofs.Start.{files_formed}
 use Rattle.translation_rules.specs.Templates.{template, lines_of_start}
 use Rattle.translation_rules.specs.Output.{copied, size, base_of, start_of, written, letters_of, letters_of_start, Translated}
 use Rattle.translation_rules.specs.Bytes.{derivation_bytes}
-use Rattle.translation_addresses.specs.Addresses.{size_rule, base_start, last_is, written_most, InBlock, InStart, locate}
+use Rattle.translation_addresses.proofs.Addresses.{size_rule, base_start, last_is, written_most, InBlock, InStart, locate}
 use Rattle.translation_reached.specs.Reached.{reached}
 use Rattle.translation_copies.specs.Copies.{copied_tree, copied_class}
 use Rattle.translation_copies.specs.Sound.{copied_bottom_tree}

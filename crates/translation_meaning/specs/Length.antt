@@ -12,10 +12,10 @@ use Rattle.reader_laws.specs.Sums.{sum_to}
 use Rattle.reader_laws.specs.Under.{under, one_rule, root_all}
 use Rattle.reader_laws.specs.Entered.{accepted_count}
 use Rattle.proof_rules.specs.Check.{node_fault, premise_sequent, start_sequent, proof_answer}
-use Rattle.proof_meaning.specs.Rows.{passed_in}
-use Rattle.proof_meaning.specs.Accepts.{walk_means}
+use Rattle.proof_meaning.proofs.Rows.{passed_in}
+use Rattle.proof_meaning.proofs.WalkMeans.{walk_means}
 use Rattle.translation_rules.specs.Bytes.{derivation_bytes}
-use Rattle.translation_addresses.specs.Addresses.{written_rules}
+use Rattle.translation_addresses.proofs.Addresses.{written_rules}
 use Rattle.translation_meaning.specs.Accepted.{obligation_read, proof_read, root_proves, root_rule, bytes_are}
 
 module _ (ob pf : List ℕ) (k : ℕ) (h : proof_answer ob pf ≡ accepted k) where

@@ -21,18 +21,18 @@ use Rattle.reader_laws.specs.Scan.{when_true, when_false}
 use Rattle.reader_laws.specs.File.{alone, beside, ReadSecond, hypotheses_limit}
 use Rattle.reader_laws.specs.Pair.{header_kind, kind_or_rule, rule_once}
 use Rattle.proof_rules.specs.Check.{proof_answer, start_sequent}
-use Rattle.proof_meaning.specs.Theorems.{start_is}
+use Rattle.proof_meaning.proofs.Theorems.{start_is}
 use Rattle.derivation_rules.specs.Erase.{⌊◌⌋, bare_tree}
 use Rattle.derivation_rules.specs.Check.{bare_hypotheses, bare_goal, derivation_answer}
 use Rattle.derivation_meaning.specs.Derives.{Derives}
-use Rattle.derivation_meaning.specs.EraseLaws.{erase_false, erase_not}
-use Rattle.derivation_meaning.specs.Start.{hypotheses_alone, goal_alone}
-use Rattle.derivation_meaning.specs.AnswerLaws.{read_accepted}
-use Rattle.derivation_meaning.specs.Theorems.{derivation-B}
+use Rattle.derivation_meaning.proofs.EraseLaws.{erase_false, erase_not}
+use Rattle.derivation_meaning.proofs.Start.{hypotheses_alone, goal_alone}
+use Rattle.derivation_meaning.proofs.AnswerLaws.{read_accepted}
+use Rattle.derivation_meaning.proofs.Theorems.{derivation-B}
 use Rattle.translation_rules.specs.Output.{line_word, copied, end_of, start_of, written, letters_of_start}
 use Rattle.translation_rules.specs.Bytes.{derivation_bytes}
 use Rattle.translation_rules.specs.Check.{room_for, translation_answer}
-use Rattle.translation_addresses.specs.Addresses.{base_after, base_start, end_start}
+use Rattle.translation_addresses.proofs.Addresses.{base_after, base_start, end_start}
 use Rattle.translation_copies.specs.Outputs.{output_bottom}
 use Rattle.translation_blocks.specs.Quantified.{block_start}
 use Rattle.translation_derives.specs.Members.{one_more}

@@ -19,7 +19,7 @@ use Rattle.reader.specs.Places.{times_in, namings}
 use Rattle.reader.specs.TreeLaws.{items_zero, items_step}
 use Rattle.reader_laws.specs.Scan.{both_parts, every_head, when_less}
 use Rattle.reader_laws.specs.Named.{names_of, names_rule}
-use Rattle.translation_rules.specs.Templates.{Cell, own, Line}
+use Rattle.translation_rules.specs.Templates.{Cell, Line}
 use Rattle.translation_rules.specs.Output.{Letters, value, line_word, Block}
 use Rattle.translation_named.specs.Cells.{line_at, choose, chain_from, node_cells, cells_to, cells_of, owns_in, premises_in, counting}
 use Rattle.translation_named.specs.Cells.{fits_item, fits_chain, is_inner, Sound, choose_cases}

@@ -1,7 +1,7 @@
 -- The address facts that the blocks' records rest on, from the laws of addresses.
 use Rattle.std.specs.Prelude.{ℕ}
 use Rattle.reader.specs.Words.{Reader}
-use Rattle.translation_addresses.specs.Addresses.{base_after, base_start, end_is, end_after, end_below, end_start}
+use Rattle.translation_addresses.proofs.Addresses.{base_after, base_start, end_is, end_after, end_below, end_start}
 use Rattle.translation_records.specs.Addresses.{Addresses}
 
 pub addresses : (rd : Reader) (m n : ℕ) → Addresses rd m n

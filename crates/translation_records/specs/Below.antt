@@ -4,7 +4,7 @@ use Rattle.std.proofs.Math.Logic.{inl, inr, ⊎_elim}
 use Rattle.std.proofs.Common.{arith, eqb-true, ltb-true}
 use Rattle.reader.specs.Words.{Reader}
 use Rattle.reader.specs.Tests.{if_eq, between}
-use Rattle.reader.specs.Kinds.{kinds, role}
+use Rattle.reader.specs.Kinds.{kinds}
 use Rattle.reader.specs.Records.{wanted_class}
 use Rattle.reader_laws.specs.Scan.{both_parts, either_parts}
 use Rattle.reader_laws.specs.Classes.{all_below_lem}

@@ -1,5 +1,5 @@
 -- The bytes of the derivation that is written, record after record.
-use Rattle.std.specs.Prelude.{ℕ, zero, suc, ◌+◌, ◌*◌, ◌/◌, ◌%◌, List, [], ◌∷◌, ◌++◌, Bool, true, false, get_or, length, take, drop}
+use Rattle.std.specs.Prelude.{ℕ, zero, suc, ◌+◌, ◌*◌, ◌/◌, ◌%◌, List, [], ◌∷◌, ◌++◌, get_or, length, take, drop}
 use Rattle.reader.specs.Words.{Reader, word}
 use Rattle.reader.specs.Tests.{if_true}
 use Rattle.reader.specs.Kinds.{modes, kinds, is_rule}

@@ -1,6 +1,6 @@
 -- The records of the derivation that is written: the proof's own, each rule node replaced by ⊥, then a block for each rule node in rising order, then
 -- the start's block. The proof's records are m + 1 to m + n.
-use Rattle.std.specs.Prelude.{ℕ, zero, suc, ◌+◌, ◌-◌, ◌<◌, ◌≤◌, ◌≡◌, List, [], ◌∷◌, Bool, true, false, get_or, length}
+use Rattle.std.specs.Prelude.{ℕ, zero, suc, ◌+◌, ◌-◌, ◌<◌, ◌≤◌, ◌≡◌, List, [], ◌∷◌, true, get_or, length}
 use Rattle.reader.specs.Words.{Reader}
 use Rattle.reader.specs.Tests.{if_eq, if_true}
 use Rattle.reader.specs.Kinds.{modes, kinds, is_rule}

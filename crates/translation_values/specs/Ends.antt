@@ -13,7 +13,7 @@ use Rattle.reader.specs.Tests.{if_lt}
 use Rattle.reader.specs.Kinds.{modes, is_rule}
 use Rattle.translation_rules.specs.Templates.{template}
 use Rattle.translation_rules.specs.Output.{size, before, base_of, end_of, start_of}
-use Rattle.translation_addresses.specs.Addresses.{size_rule, size_other}
+use Rattle.translation_addresses.proofs.Addresses.{size_rule, size_other}
 
 -- the table has the end of the block of each record below i, also where that is no rule node
 pub record Ends (rd : Reader) (m n : ℕ) (table : List ℕ) (i : ℕ) : Type 0 where

@@ -10,7 +10,7 @@ use reader_chains::chains;
 use reader_view::views;
 
 // The block of a node, by its first record's number.
-#[derive(Drop)]
+#[derive(Clone, Copy)]
 pub struct Block {
     pub node: usize,
     pub base: usize,

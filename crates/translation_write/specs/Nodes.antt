@@ -21,7 +21,7 @@ use Rattle.reader_chains.specs.Chains.{link_at, item_at, link_first, link_after,
 use Rattle.translation_rules.specs.Templates.{Cell, none, part, inside, deeper, type_inside, bottom, own, conclusion, Line, template}
 use Rattle.translation_rules.specs.Output.{Letters, value, no_line, size, before, base_of, end_of, start_of, written, letters_of}
 use Rattle.translation_rules.specs.Bytes.{line_bytes, lines_bytes, block_bytes, blocks_bytes}
-use Rattle.translation_addresses.specs.Addresses.{size_rule, size_other, base_after, base_start, end_is, last_is, written_most}
+use Rattle.translation_addresses.proofs.Addresses.{size_rule, size_other, base_after, base_start, end_is, last_is, written_most}
 use Rattle.translation_values.specs.Values.{letters_in}
 use Rattle.translation_values.specs.Ends.{Ends}
 use Rattle.translation_write.specs.Put.{put, put_nothing, put_put}

@@ -1,2 +1,4 @@
 // The lines of a listing, put behind what stands in a lent area.
+#![tactic(auto)]
+
 pub mod lines;

@@ -8,7 +8,7 @@ use Rattle.programs_text.specs.Text.{Appended}
 use Rattle.programs_text.specs.TextLaws.{appended_more}
 use Rattle.tree_rules.specs.Order.{order}
 use Rattle.tree_rules.specs.Listing.{heading, entered, ending, listing}
-use Rattle.tree_meaning.specs.Theorems.{few_nodes}
+use Rattle.tree_meaning.proofs.Theorems.{few_nodes}
 use Rattle.tree_listing.specs.Lists.{Lists}
 
 module _ (ob pf : List ℕ) (a : Answer) (ea : a ≡ proof_answer ob pf) where

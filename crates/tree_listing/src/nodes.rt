@@ -9,7 +9,7 @@ use reader::trees;
 use tree_lines::lines;
 
 // Where the text ends, and how many nodes are left to list.
-#[derive(Drop)]
+#[derive(Clone, Copy)]
 pub struct Listed {
     pub end: usize,
     pub left: usize,

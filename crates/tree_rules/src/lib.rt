@@ -1,1 +1,2 @@
 // The listing of a proof: definitions in specs/, no code.
+#![tactic(auto)]

@@ -1,0 +1,4 @@
+pub mod WalkedLaws
+pub mod Faulty
+pub mod BeforeWalk
+pub mod Theorems
