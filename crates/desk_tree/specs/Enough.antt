@@ -10,8 +10,8 @@ use Rattle.proof_rules.specs.Check.{proof_walk, proof_answer}
 use Rattle.programs.specs.Enough.{most_bytes, cut, obligation_refused, second_refused}
 use Rattle.programs_limits.specs.Limits.{obligation_read, proof_read}
 use Rattle.tree_rules.specs.Listing.{heading, ending, listing}
-use Rattle.tree_meaning.specs.BeforeWalk.{or_none, obligation_none}
-use Rattle.tree_meaning.specs.Theorems.{unwalked}
+use Rattle.tree_meaning.proofs.BeforeWalk.{or_none, obligation_none}
+use Rattle.tree_meaning.proofs.Theorems.{unwalked}
 
 -- a listing of a file that is too long has no nodes
 module _ (s ob : List ℕ) (long : most_bytes 0 < length ob) where

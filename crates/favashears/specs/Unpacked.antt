@@ -8,7 +8,8 @@ use Rattle.derivation_rules.specs.Check.{derivation_answer}
 use Rattle.translation_rules.specs.Check.{translation_answer}
 use Rattle.translation_meaning.specs.Translates.{Translates}
 use Rattle.favashears_bounds.specs.AnswerBounds.{proof_bounded, derivation_bounded, reading_proof_bounded, reading_derivation_bounded, translation_bounded}
-use Rattle.favashears_pack.specs.Pack.{pack, Unpacks, unpacks}
+use Rattle.favashears_pack.specs.Pack.{pack, Unpacks}
+use Rattle.favashears_pack.proofs.PackLaws.{unpacks}
 
 -- The ways out of the entries, from the answer that the function called gave.
 module _ (ob s : List ℕ) (a : Answer) (n : ℕ) (e : n ≡ pack a) where

@@ -1,4 +1,4 @@
-// The C entries: two byte areas in, the answer's four numbers in the bits of one.
+// The entries: two byte areas in, the answer's four numbers in the bits of one.
 ghost use Rattle.reader.specs.Places.{reading};
 ghost use Rattle.proof_rules.specs.Check.{proof_answer};
 ghost use Rattle.derivation_rules.specs.Check.{derivation_answer};
@@ -14,29 +14,21 @@ use reader_places::places::{read_derivation, read_proof};
 use translation::translate::translate;
 
 // The answer to an obligation and a proof.
-#[unsafe(no_mangle)]
-pub extern "C" fn desk_check_proof(obligation: &[u8], proof: &[u8]) -> u64
+pub fn desk_check_proof(obligation: &[u8], proof: &[u8]) -> u64
     ensures { Unpacks result (proof_answer obligation.now proof.now) }
 {
     pack(check_proof(obligation, proof))
 }
 
 // The answer to an obligation and a derivation.
-#[unsafe(no_mangle)]
-pub extern "C" fn desk_check_derivation(obligation: &[u8], derivation: &[u8]) -> u64
+pub fn desk_check_derivation(obligation: &[u8], derivation: &[u8]) -> u64
     ensures { Unpacks result (derivation_answer obligation.now derivation.now) }
 {
     pack(check_derivation(obligation, derivation))
 }
 
 // The answer to an obligation, a proof and a buffer, and the derivation's length, 0 on a refusal.
-#[unsafe(no_mangle)]
-pub extern "C" fn desk_translate(
-    obligation: &[u8],
-    proof: &[u8],
-    buffer: &mut [u8],
-    length: &mut u64,
-) -> u64
+pub fn desk_translate(obligation: &[u8], proof: &[u8], buffer: &mut [u8], length: &mut u64) -> u64
     ensures fact_1 { Unpacks result (translation_answer obligation.now proof.now (size buffer.old)) }
     ensures fact_2 { Translates obligation.now proof.now buffer.old buffer.new
         (translation_answer obligation.now proof.now (size buffer.old)) length.new }
@@ -47,16 +39,14 @@ pub extern "C" fn desk_translate(
 }
 
 // Places 1 to 12 of an obligation and a proof.
-#[unsafe(no_mangle)]
-pub extern "C" fn desk_read_proof(obligation: &[u8], proof: &[u8]) -> u64
+pub fn desk_read_proof(obligation: &[u8], proof: &[u8]) -> u64
     ensures { Unpacks result (reading 1 obligation.now proof.now) }
 {
     pack(read_proof(obligation, proof))
 }
 
 // Places 1 to 12 of an obligation and a derivation.
-#[unsafe(no_mangle)]
-pub extern "C" fn desk_read_derivation(obligation: &[u8], derivation: &[u8]) -> u64
+pub fn desk_read_derivation(obligation: &[u8], derivation: &[u8]) -> u64
     ensures { Unpacks result (reading 2 obligation.now derivation.now) }
 {
     pack(read_derivation(obligation, derivation))

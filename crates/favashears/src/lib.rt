@@ -1,2 +1,4 @@
-// The C library: all entries of the desk and nothing else.
+// All entries of the desk and nothing else. The crate favashears_c gives them to C.
+#![tactic(auto)]
+
 pub mod entries;

@@ -1,9 +1,9 @@
 -- Every answer of the two checks and the translation is bounded, whatever the files and the buffer.
-use Rattle.std.specs.Prelude.{ℕ, ◌+◌, ◌<◌, ◌≤◌, ◌≡◌, refl, List, Bool, true, false, eqb, ltb}
-use Rattle.std.proofs.Common.{ap, subst, sym, arith}
+use Rattle.std.specs.Prelude.{ℕ, ◌≤◌, ◌≡◌, refl, List, Bool, true, false, eqb, ltb}
+use Rattle.std.proofs.Common.{arith}
 use Rattle.reader.specs.declared.Answer.{Answer}
 use Rattle.reader.specs.Words.{Reader}
-use Rattle.reader.specs.Tests.{demand, every, if_eq, if_lt}
+use Rattle.reader.specs.Tests.{every, if_eq, if_lt}
 use Rattle.reader.specs.Kinds.{is_rule}
 use Rattle.reader.specs.Trees.{Tree}
 use Rattle.reader.specs.Chains.{premises}
@@ -12,10 +12,10 @@ use Rattle.reader.specs.Places.{most_records, root_of, count_of, reading}
 use Rattle.reader.specs.Members.{premises_fit}
 use Rattle.reader.specs.Walk.{and_then, walk_node}
 use Rattle.reader_laws.specs.Scan.{both_parts, demand_parts}
-use Rattle.reader_laws.specs.File.{beside, last_of, ReadObligation, ReadSecond, reading_parts}
+use Rattle.reader_laws.specs.File.{beside, ReadObligation, ReadSecond, reading_parts}
 use Rattle.reader_laws.specs.File.{length_parts, header_parts, records_few}
 use Rattle.reader_laws.specs.Pair.{root_range}
-use Rattle.reader_laws.specs.Under.{under, root_under}
+use Rattle.reader_laws.specs.Under.{root_under}
 use Rattle.reader_laws.specs.Entered.{node_count}
 use Rattle.proof_rules.specs.Check as proof
 use Rattle.proof_rules.specs.Check.{proof_walk, proof_answer, start_sequent, premise_sequent}
@@ -25,7 +25,7 @@ use Rattle.derivation_rules.specs.Check.{derivation_walk, derivation_answer, sta
 use Rattle.translation_rules.specs.Check.{room_for, translation_answer}
 use Rattle.favashears_bounds.specs.Bounds.{Bounded}
 use Rattle.favashears_bounds.specs.ReadingBounds.{demand_most, or_bounded, reading_bounded}
-use Rattle.favashears_bounds.specs.WalkBounds.{Within, node_within}
+use Rattle.favashears_bounds.specs.WalkBounds.{node_within}
 
 -- A walk from the root of a second file, of any calculus whose nodes that pass their tests have rule nodes for premises.
 module _ {S : Type 0} (mode : ℕ) (limit : most_records mode ≤ 200001) (ob s : List ℕ) (fault : S → ℕ → ℕ) (next : S → ℕ → ℕ → S)

@@ -1,5 +1,5 @@
 -- The greatest numbers that an answer has: refusals go up to 19, there are two files, and both together have fewer than 2²⁴ records.
-use Rattle.std.specs.Prelude.{ℕ, ◌<◌, ◌≤◌}
+use Rattle.std.specs.Prelude.{◌<◌, ◌≤◌}
 use Rattle.reader.specs.declared.Answer.{Answer}
 
 pub record Bounded (a : Answer) : Type 0 where

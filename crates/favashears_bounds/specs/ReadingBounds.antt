@@ -10,7 +10,7 @@ use Rattle.reader.specs.Answers.{answer, accepted, placed, or_answer, first_faul
 use Rattle.reader.specs.Places.{most_records, length_fits, header_fits, counts_fit, goal_fits, hypotheses_fit, root_of, count_of}
 use Rattle.reader.specs.Places.{namings, naming_fault, obligation_reading, second_reading, reading}
 use Rattle.reader_laws.specs.Scan.{placed_parts}
-use Rattle.reader_laws.specs.File.{ReadObligation, obligation_parts, length_parts, header_parts, counts_parts}
+use Rattle.reader_laws.specs.File.{obligation_parts, length_parts, header_parts, counts_parts}
 use Rattle.favashears_bounds.specs.Bounds.{Bounded}
 
 -- Numbers of tests.

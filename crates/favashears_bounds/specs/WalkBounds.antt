@@ -1,6 +1,6 @@
 -- The answers of a walk over rule nodes, of any calculus: refusals are the nodes' own, in file 2, at the node where the walk began or one of a smaller number.
 use Rattle.std.specs.Prelude.{ℕ, zero, suc, ◌+◌, ◌<◌, ◌≤◌, ◌≡◌, refl, Bool, true, false, eqb}
-use Rattle.std.proofs.Common.{sym, ap, subst, arith, eqb-true}
+use Rattle.std.proofs.Common.{sym, subst, arith, eqb-true}
 use Rattle.std.proofs.lemmas.Bool.{eqb-false}
 use Rattle.reader.specs.declared.Answer.{Answer}
 use Rattle.reader.specs.Words.{Reader}

@@ -1,7 +1,9 @@
 // Standard output.
+use crate::messages;
+
 // Writes text to standard output, all of it; a message where that fails.
-pub fn print(text: &[u8]) {
-    if !io::write_all(libc::STDOUT_FILENO, text) {
-        os::fail(b"standard output");
+pub fn print(rt: &(impl Print + Eprint), text: &[u8]) {
+    if let Err(why) = rt.write_all(text) {
+        messages::fail(rt, b"standard output", why);
     }
 }

@@ -2,7 +2,12 @@
 ghost use Rattle.std.specs.Prelude.{◌+◌, ◌≤◌, length};
 ghost use Rattle.programs.specs.Names.{NamesPart};
 
+use crate::{arguments, messages};
 use programs_text::text;
+use std::env::Env;
+use std::fs::{Files, OpenFile, OpenOptions};
+use std::io::{ErrorKind, Write};
+use std::{fs, io};
 
 // Writes the name of the temporary file, the name with `.part` behind it, to the area's start; its length.
 fn put_part(area: &mut [u8], name: &[u8]) -> usize
@@ -13,70 +18,80 @@ fn put_part(area: &mut [u8], name: &[u8]) -> usize
     text::append(area, end, b".part")
 }
 
-// Writes the bytes to an open file, as far as its device; whether all of them are there.
-fn write_through(fd: i32, bytes: &[u8]) -> bool {
-    if !io::write_all(fd, bytes) {
-        return false;
-    }
-    libc::fsync(fd) == 0
+// Writes the bytes to an open file, as far as its device.
+fn write_through(file: &mut (impl Write + OpenFile), bytes: &[u8]) -> io::Result<()> {
+    file.write_all(bytes)?;
+    file.sync_all()
 }
 
-// Writes the bytes to an open file and closes it; whether that is done. A message comes before the next call, which could lose the reason.
-fn fill(fd: i32, name: &[u8], bytes: &[u8]) -> bool {
-    if !write_through(fd, bytes) {
-        os::fail(name);
-        libc::close(fd);
-        return false;
+// Writes the bytes to an open file and closes it; whether that is done. Otherwise a message.
+fn fill<F: Write + OpenFile + Drop>(
+    rt: &impl Eprint,
+    mut file: F,
+    name: &[u8],
+    bytes: &[u8],
+) -> bool {
+    match write_through(&mut file, bytes) {
+        Ok(()) => true,
+        Err(why) => {
+            messages::fail(rt, name, why);
+            false
+        }
     }
-    if libc::close(fd) != 0 {
-        os::fail(name);
-        return false;
-    }
-    true
 }
 
 // Says why the temporary file can't be made. A file that has its name already is not this program's, and is left alone: the message names it.
-fn fail_new(name: &[u8], part: &[u8]) {
-    if os::errno() == libc::EEXIST {
-        os::fail(part);
+fn fail_new(rt: &impl Eprint, name: &[u8], part: &[u8], why: io::Error) {
+    if why.kind() == ErrorKind::AlreadyExists {
+        messages::fail(rt, part, why);
     } else {
-        os::fail(name);
+        messages::fail(rt, name, why);
     }
 }
 
 // Writes the bytes to the temporary file and gives it the name; where that can't be done, removes it again. Whether it is done.
-fn save_by(name: &[u8], part: &[u8], bytes: &[u8]) -> bool {
-    let fd = os::create(part);
-    if fd < 0 {
-        fail_new(name, part);
-        return false;
-    }
-    if fill(fd, name, bytes) {
-        if os::rename(part, name) == 0 {
-            return true;
+fn save_by(rt: &(impl Files + Eprint), name: &str, part: &str, bytes: &[u8]) -> bool {
+    let file = match OpenOptions::new()
+        .write(true)
+        .create_new(true)
+        .open(rt, part)
+    {
+        Ok(file) => file,
+        Err(why) => {
+            fail_new(rt, name.as_bytes(), part.as_bytes(), why);
+            return false;
         }
-        os::fail(name);
+    };
+    if fill(rt, file, name.as_bytes(), bytes) {
+        match fs::rename(rt, part, name) {
+            Ok(()) => return true,
+            Err(why) => messages::fail(rt, name.as_bytes(), why),
+        }
     }
-    os::unlink(part);
+    let _ = fs::remove_file(rt, part);
     false
 }
 
 // Writes the bytes to the file of that name. The area has room for any name that `save` takes, with `.part` behind it.
-fn save_file(name: &[u8], bytes: &[u8]) -> bool
+fn save_file(rt: &(impl Files + Eprint), name: &[u8], bytes: &[u8]) -> bool
     requires { length name.now ≤ 4090 }
 {
-    let mut area = io::buffer();
+    let mut area = [0u8; 4096];
     let n = put_part(&mut area, name);
-    save_by(name, &area[..n], bytes)
+    let Some(path) = arguments::path_of(rt, name) else {
+        return false;
+    };
+    match arguments::path_of(rt, &area[..n]) {
+        Some(part) => save_by(rt, path, part, bytes),
+        None => false,
+    }
 }
 
 // Writes the bytes to the file that argument i names; whether it is done. A longer name than 4,090 bytes leaves no room for `.part` in a path and is too long.
-pub fn save(i: usize, bytes: &[u8]) -> bool {
+pub fn save(rt: &(impl Files + Env + Eprint), i: usize, bytes: &[u8]) -> bool {
     let mut name = [0u8; 4090];
-    let length = os::arg(i, &mut name);
-    if os::errno() != 0 {
-        os::fail(&name);
-        return false;
+    match arguments::put_name(rt, i, &mut name) {
+        Some(length) => save_file(rt, &name[..length], bytes),
+        None => false,
     }
-    save_file(&name[..length], bytes)
 }

@@ -29,6 +29,7 @@ decimal_more n h = rw (decimal_step_lem n) (simp (decimal_step, if_lt, le-ltb n 
 
 -- a byte written before others
 pub put_before : (l : List ℕ) (end b : ℕ) → 0 < end → end ≤ length l → drop (end - 1) (set l (end - 1) b) ≡ b ∷ drop end l
+put_before l zero b p h = elim p [ ]
 put_before l (suc i) b p h =
     let inside : i < length (set l i b) = rw length-set h in
     rw (sub-one, drop-cons (set l i b) i 0 inside, get_or-set_same l i b 0 h, drop-set-lt (suc i) l i b (omega arith))

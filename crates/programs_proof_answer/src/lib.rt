@@ -1,2 +1,4 @@
 // The line of the proof check's answer to two files.
+#![tactic(auto)]
+
 pub mod answer;

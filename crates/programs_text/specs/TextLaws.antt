@@ -28,6 +28,18 @@ module _ (area text : List ℕ) (at : ℕ) (room : at + length text ≤ length a
         kept = rw (all, e) (drop_at (take at area ++ text) (drop (at + length text) area) (at + length text) head_length);
       }
 
+  -- the text in the place of as many bytes
+  pub text_appended : (n : ℕ) → n ≡ length text → Appended area at text (take at area ++ (text ++ drop n (drop at area))) (at + length text)
+  text_appended n e =
+      let rest : drop (length text) (drop at area) ≡ drop (at + length text) area = drop-drop (length text) at area in
+      let all : take at area ++ (text ++ drop n (drop at area)) ≡ take at area ++ text ++ drop (at + length text) area =
+      rw (e, rest) (sym (append_assoc (take at area) text (drop (at + length text) area))) in
+      record {
+        ends = refl;
+        stands = rw all (take_at (take at area ++ text) (drop (at + length text) area) (at + length text) head_length);
+        kept = rw all (drop_at (take at area ++ text) (drop (at + length text) area) (at + length text) head_length);
+      }
+
 -- no text
 pub appended_none : (area : List ℕ) (at : ℕ) → Appended area at [] area at
 appended_none area at = record { ends = omega arith; stands = sym (append-nil (take at area)); kept = refl }

@@ -7,5 +7,7 @@ pub fn append(area: &mut [u8], at: usize, text: &[u8]) -> usize
     requires { at + length text.now ≤ length area.old }
     ensures { Appended area.old at text.now area.new result }
 {
-    at + bytes::copy(text, &mut area[at..])
+    let end = at + text.len();
+    area[at..end].copy_from_slice(text);
+    end
 }

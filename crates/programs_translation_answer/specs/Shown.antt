@@ -12,7 +12,7 @@ use Rattle.translation_meaning.specs.Translates.{Translates}
 use Rattle.programs_lines.specs.Lines.{translation_line, EndsIn}
 use Rattle.programs_lines.specs.LineLaws.{line_slice}
 use Rattle.programs_limits.specs.Limits.{buffer_size}
-use Rattle.programs_limits.specs.Enough.{room_for_all}
+use Rattle.programs_limits.proofs.Enough.{room_for_all}
 
 -- A pair is translated into a buffer that held `before` and holds `after`; the line of the answer and the length stands in `out`, which held `blank`, from place
 -- `begin` on.

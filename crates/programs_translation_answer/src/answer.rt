@@ -5,7 +5,7 @@ use programs_lines::lines;
 use translation::translate;
 
 // What came of a pair: the answer's refusal, the derivation's length in the buffer, and where the line begins.
-#[derive(Drop)]
+#[derive(Clone, Copy)]
 pub struct Outcome {
     pub refusal: usize,
     pub length: usize,

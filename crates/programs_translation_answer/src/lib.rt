@@ -1,2 +1,4 @@
 // The translation of two files, and the line of its answer.
+#![tactic(auto)]
+
 pub mod answer;

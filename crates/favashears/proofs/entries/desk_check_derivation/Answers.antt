@@ -1,0 +1,7 @@
+use borrow.Author.Rules.{rules}
+use Rattle.favashears.specs.Unpacked.{derivation_unpacks}
+use native.Mathlib.Omega.{arith}
+use Rattle.favashears.proofs.entries.desk_check_derivation.Goals as goal
+
+pub returns : goal.returns
+returns c = derivation_unpacks _ _ _ _ c.pack.ensures c.check_derivation.ensures

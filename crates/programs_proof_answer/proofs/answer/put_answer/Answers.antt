@@ -1,0 +1,5 @@
+use Rattle.programs_lines.specs.LineLaws.{ends_in_equal}
+use Rattle.programs_proof_answer.proofs.answer.put_answer.Goals as goal
+
+pub returns : goal.returns
+returns c = ends_in_equal _ _ _ _ _ c.check_proof.ensures c.put_line.ensures
