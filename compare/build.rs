@@ -10,7 +10,7 @@ fn main() {
     println!("cargo:rerun-if-changed={}", archive.display());
     assert!(
         archive.exists(),
-        "target/staticlib/libfavashears.a is missing: run `rt staticlib favashears` in the repository's root"
+        "target/staticlib/libfavashears.a is missing: run `rt ci` and `bash tests/built.sh` in the repository's root"
     );
     println!("cargo:rustc-link-lib=static=favashears");
 }

@@ -1,17 +1,17 @@
 #!/usr/bin/env bash
 # Each half of the 32 rule bytes (crates/proof_bytes, crates/derivation_bytes) made wrong, one check each: by one more in the code alone, by one more in code and definition, and 15 in
 # both where the number is fixed. Where the half is 15, 14 stands for one more and 3 for 15. Each must be refused at a fact: the result of the byte's function, or the law that holds its
-# table against the rules' rows. Six wrong halves are must-fail edits of the gate; all of these take some 5 minutes.
+# table against the rules' rows. Six wrong halves are must-fail edits of the gate; all of these take some 20 minutes.
 set -euo pipefail
 cd "$(dirname "$0")/.."
-work=target/wrong_halves
+work=$(mktemp -d)
+trap 'rm -rf "$work"' EXIT
 
-# The crates and what they depend on, without the edits of the gate.
-rm -rf "$work"
-mkdir -p "$work/crates"
+# The crates and what they depend on, without the edits of the gate; outside the checkout, where `rt ci` would refuse them.
+mkdir "$work/crates"
 for crate in reader reader_bytes proof_rules proof_bytes derivation_rules derivation_bytes; do
     cp -r "crates/$crate" "$work/crates"
-    rm -rf "$work/crates/$crate/must-fail"
+    rm -rf "$work/crates/$crate/must-fail" "$work/crates/$crate/out"
     grep "^$crate:" crates.txt >> "$work/crates.txt"
 done
 
@@ -63,20 +63,21 @@ write_edits() {
     wrong "${label}_other" "$crate" "$2" "$3" "$(with_half "$3" "$4" "$7")" alike
 }
 
-# refused CALCULUS LABEL FACT: the edit's first error is at the fact, where what was expected and what was found differ once both are computed.
+# refused CALCULUS LABEL FACT: the edit's first error is at the fact, a pattern, where what was expected and what was found differ once both are computed.
 refused() {
-    local log=$work/target/must-fail/$1_bytes/$2/.log
-    grep -m 1 'error:' "$log" | grep -qF "error: \`$3\`:" || { echo "$2 is not refused at $3" >&2; exit 1; }
-    head -n 4 "$log" | grep -qF 'computed as far as they go' || { echo "$2 is refused for want of a computation" >&2; exit 1; }
+    local said
+    said=$(grep -m 1 "must-fail $1_bytes/$2.edit: refused" "$work/log") || { echo "$2 is not refused" >&2; exit 1; }
+    grep -qE "error: \`$3\`:" <<<"$said" || { echo "$2 is not refused at $3: $said" >&2; exit 1; }
+    grep -qE 'the two types (first )?differ|expected type' <<<"$said" || { echo "$2 is refused for want of a computation: $said" >&2; exit 1; }
 }
 
 tried=0
 read_errors() {
     local label=$2_$4
-    refused "$1" "${label}_code" "$1-byte-spec"
-    refused "$1" "${label}_alike" "$1-$4"
-    refused "$1" "${label}_other" "$1-$4"
-    echo "$2 $4 $5: $6 in the code refused at $1-byte-spec; $6 and $7 in code and definition at $1-$4"
+    refused "$1" "${label}_code" "returns(-in-$2)?"
+    refused "$1" "${label}_alike" "$1_$4"
+    refused "$1" "${label}_other" "$1_$4"
+    echo "$2 $4 $5: $6 in the code refused at the result of $1_byte; $6 and $7 in code and definition at $1_$4"
     tried=$((tried + 3))
 }
 

@@ -43,7 +43,7 @@ impl Program {
         });
         let run = Command::new(&self.path).args(files).output();
         run.unwrap_or_else(|error| {
-            panic!("{PROGRAM}: {error}: run `rt check desk_tree` in the repository's root")
+            panic!("{PROGRAM}: {error}: run `rt ci` and `bash tests/built.sh` in the repository's root")
         })
     }
 }
