@@ -1,5 +1,5 @@
 // The program's arguments. The program's own name is argument 0.
-ghost use Rattle.std.specs.Prelude.{◌≡◌, ◌≤◌, length, IfSome};
+ghost use Rattle.std.specs.Prelude.{◌≡◌, ◌≤◌, length, IfSome, IsUtf8, MatchOption};
 
 use crate::messages;
 use std::env::{Env, FillError};
@@ -41,7 +41,7 @@ pub fn put_name(rt: &(impl Env + Eprint), i: usize, area: &mut [u8]) -> Option<u
 
 // The name as std takes it, which is UTF-8; a message where it is not.
 pub fn path_of<'a>(rt: &impl Eprint, name: &'a [u8]) -> Option<&'a str>
-    ensures { IfSome result (λ path. path.now ≡ name.now) }
+    ensures { MatchOption result (¬ (IsUtf8 name.now)) (λ path. (path.now ≡ name.now) × IsUtf8 name.now) }
 {
     match str::from_utf8(name) {
         Ok(path) => Some(path),
