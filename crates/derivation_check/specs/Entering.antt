@@ -38,6 +38,11 @@ pub record Lent (s keys reaches frames : List ℕ) : Type 0 where
   pub small : length keys ≤ 201024
   pub long : length frames ≡ 32776
 
+-- so many entries are room for them, and no more than the walk may be lent
+pub record Sized (s : List ℕ) (size : ℕ) : Type 0 where
+  pub room : record_count s ≤ 200001 → 1023 + record_count s ≤ size
+  pub small : size ≤ 201024
+
 -- Pairs that pass places 1 to 12.
 module _ (ob s : List ℕ) (read : (reading 2 ob s).refusal ≡ 0) where
   both_read : ReadObligation ob × ReadSecond 2 ob s
@@ -168,16 +173,15 @@ module _ (ob s : List ℕ) (a : Answer) (ea : a ≡ reading 2 ob s) where
 pub prefix_length : (k : ℕ) (table : List ℕ) → k ≤ length table → length (take k table) ≡ k
 prefix_length k table h = length-take-le k table h
 
--- Tables of zeros, for few records and for any number.
-module _ (s frames : List ℕ) (long : length frames ≡ 32776) where
-  zeros_lent : (n most : ℕ) → n ≤ 201024 → 1023 + most ≤ n → (record_count s ≤ 200001 → record_count s ≤ most) → Lent s (zeros n) (zeros n) frames
-  zeros_lent n most few room least =
-      let e : length (zeros n) ≡ n = length-replicate {A = ℕ} n 0 in
-      let all : record_count s ≤ 200001 → 1023 + record_count s ≤ length (zeros n) = λ p. rw e (omega (arith, least p)) in
-      record { room = all; far = all; small = rw e few; long = long }
+-- Sizes for few records and for any number, and tables of zeros of such a size.
+pub few_sized : (s : List ℕ) → record_count s ≤ 3073 → Sized s 4096
+few_sized s h = record { room = λ p. omega arith; small = omega arith }
 
-  pub few_lent : record_count s ≤ 3073 → Lent s (zeros 4096) (zeros 4096) frames
-  few_lent h = zeros_lent 4096 3073 (omega arith) (omega arith) (λ p. h)
+pub many_sized : (s : List ℕ) → Sized s 201024
+many_sized s = record { room = λ p. omega arith; small = omega arith }
 
-  pub many_lent : Lent s (zeros 201024) (zeros 201024) frames
-  many_lent = zeros_lent 201024 200001 (omega arith) (omega arith) (λ p. p)
+pub zeros_lent : (s frames : List ℕ) (n : ℕ) → Sized s n → length frames ≡ 32776 → Lent s (zeros n) (zeros n) frames
+zeros_lent s frames n sized long =
+    let e : length (zeros n) ≡ n = length-replicate {A = ℕ} n 0 in
+    let all : record_count s ≤ 200001 → 1023 + record_count s ≤ length (zeros n) = λ p. rw e (sized.room p) in
+    record { room = all; far = all; small = rw e sized.small; long = long }

@@ -6,8 +6,8 @@ use Rattle.reader.specs.Words.{Reader}
 use Rattle.reader.specs.Tests.{if_eq, if_lt, if_true}
 use Rattle.reader.specs.Kinds.{role, role_at}
 use Rattle.reader.specs.Trees.{child}
-use Rattle.reader_view.specs.declared.Record.{Record}
-use Rattle.reader_view.specs.Records.{RecordIs}
+use Rattle.reader.specs.declared.Record.{Record}
+use Rattle.reader.specs.Fetched.{RecordIs}
 use Rattle.reader_equality.specs.declared.Parts.{Parts}
 use Rattle.reader_equality.specs.Keys.{is_part, part_at, part_below, part_in_lem}
 use Rattle.reader_equality.specs.Shapes.{PartsAre}

@@ -16,8 +16,8 @@ use Rattle.reader.specs.TreeLaws.{child_below}
 use Rattle.reader.specs.Variables.{binders, indices_below}
 use Rattle.reader_closedness.specs.Reaches.{variable_index, own_none, own_variable}
 use Rattle.reader_closedness.specs.Reach.{larger, variable, crossed, own_reach, reach, indices_reach}
-use Rattle.reader_view.specs.declared.Record.{Record}
-use Rattle.reader_view.specs.Records.{RecordIs}
+use Rattle.reader.specs.declared.Record.{Record}
+use Rattle.reader.specs.Fetched.{RecordIs}
 use Rattle.reader_equality.specs.declared.Parts.{Parts}
 use Rattle.reader_equality.specs.Keys.{part_at, part_below}
 use Rattle.reader_equality.specs.Shapes.{PartsAre}

@@ -1,16 +1,17 @@
 // The order of a record, a number up to 255 that the table has beside its reach: the largest of its parts' orders, and one more where two parts have that.
 // A recursion into all parts but one of the largest order, which a loop takes, is then no deeper than the order.
 ghost use Rattle.std.specs.Prelude.{false, ◌≡◌, ◌<◌, ◌≤◌, ◌/◌, length, get_or};
-ghost use Rattle.reader.specs.Words.{word};
-ghost use Rattle.reader_view.specs.Records.{RecordIs};
+ghost use Rattle.reader.specs.Files.{words};
+ghost use Rattle.reader.specs.Fetched.{RecordIs};
 ghost use Rattle.reader_equality.specs.Shapes.{PartsAre};
 ghost use Rattle.derivation_rules.specs.Erase.{bare_tree};
 ghost use Rattle.derivation_closedness.specs.Orders.{shared, order, order_above};
 ghost use Rattle.derivation_closedness.specs.Reaches.{Reached};
 
+use reader::kinds::Kind;
+use reader::{Files, Record};
 use reader_closedness::reaches::larger;
 use reader_equality::Parts;
-use reader_view::Record;
 
 // The order that entry i of the table has.
 fn entry_order(reaches: &[u16], i: usize) -> usize
@@ -51,22 +52,14 @@ fn order_above(a: usize, b: usize, c: usize) -> usize
 }
 
 // The order of record i, whose words are x, by those of its parts, which the table has. Kind 22 has that of its formula, even of none.
-pub fn order_of(
-    obligation: &[u8],
-    second: &[u8],
-    m: usize,
-    reaches: &[u16],
-    i: usize,
-    x: Record,
-    parts: Parts,
-) -> usize
-    requires { (0 < i) × (i ≤ length reaches.now) × RecordIs (word obligation.now second.now m) i x × PartsAre false i x parts × Reached (word obligation.now second.now m) reaches.now i }
-    ensures { result ≡ order (bare_tree (word obligation.now second.now m) i) }
+pub fn order_of(files: &Files, reaches: &[u16], i: usize, x: Record, parts: Parts) -> usize
+    requires { (0 < i) × (i ≤ length reaches.now) × RecordIs (words files.now) i x × PartsAre false i x parts × Reached (words files.now) reaches.now i }
+    ensures { result ≡ order (bare_tree (words files.now) i) }
 {
     let a = entry_order(reaches, parts.first);
     let b = entry_order(reaches, parts.second);
     let c = entry_order(reaches, parts.third);
-    if x.kind == 22 {
+    if x.kind == Kind::ForAllTypes as usize {
         return b;
     }
     order_above(a, b, c)

@@ -10,8 +10,8 @@ use Rattle.reader.specs.TreeLaws.{child_below}
 use Rattle.reader_equality.specs.declared.Key.{Key}
 use Rattle.reader_equality.specs.Tables.{Zeros}
 use Rattle.reader_equality.specs.Least.{least_of}
-use Rattle.reader_view.specs.declared.Record.{Record}
-use Rattle.reader_view.specs.Records.{RecordIs}
+use Rattle.reader.specs.declared.Record.{Record}
+use Rattle.reader.specs.Fetched.{RecordIs}
 use Rattle.reader_equality.specs.Keys.{part_at, part_in, part_entry, key_from, part_below, part_in_lem, part_in_below, part_child}
 use Rattle.reader_slots.specs.Slots.{Placed, Put, Entered, placed_none, placed_next, placed_set, entered_none, entered_next, put_number, put_entered}
 use Rattle.derivation_rules.specs.Erase.{bare_tree}

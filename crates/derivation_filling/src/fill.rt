@@ -1,59 +1,50 @@
 // Fills the table of keys: records rising, each key from those of smaller records.
 ghost use Rattle.std.specs.Prelude.{◌+◌, ◌*◌, ◌<◌, ◌≤◌, length};
-ghost use Rattle.reader.specs.Words.{word};
+ghost use Rattle.reader.specs.Files.{words};
 ghost use Rattle.reader_equality.specs.Tables.{Zeros};
 ghost use Rattle.derivation_trees.specs.Table.{Table};
 ghost use Rattle.derivation_filling.specs.Filling.{Filling, Made};
 
+use reader::Files;
+use reader::kinds::Kind;
 use reader_equality::keys::part_of;
-use reader_equality::tables;
 use reader_slots::slots;
-use reader_view::views;
 
 // The key of record i. A record that is the first with its tree is put into the slots, unless it is ⊥, ⊤, a negation or a "for all types".
-fn record_key(
-    obligation: &[u8],
-    second: &[u8],
-    m: usize,
-    keys: &[usize],
-    slots: &mut [u32],
-    i: usize,
-) -> usize
-    requires { (0 < i) × (i ≤ length keys.now) × (i < 262143) × (4096 + 2 * i ≤ length slots.old) × Filling (word obligation.now second.now m) keys.now slots.old i }
-    ensures { Made (word obligation.now second.now m) keys.now slots.new i result }
+fn record_key(files: &Files, keys: &[usize], slots: &mut [u32], i: usize) -> usize
+    requires { (0 < i) × (i ≤ length keys.now) × (i < 262143) × (4096 + 2 * i ≤ length slots.old) × Filling (words files.now) keys.now slots.old i }
+    ensures { Made (words files.now) keys.now slots.new i result }
 {
-    let x = views::record_of(obligation, second, m, i);
-    if x.kind == 14 {
+    let x = files.record_at(i);
+    if x.kind == Kind::False as usize {
         return 1;
     }
-    if x.kind == 15 {
+    if x.kind == Kind::True as usize {
         return 262145;
     }
-    if x.kind == 18 {
+    if x.kind == Kind::Not as usize {
         let part = part_of(true, i, x, 1);
-        return tables::entry(keys, part) + 262144;
+        return keys[part] + 262144;
     }
-    if x.kind == 22 {
+    if x.kind == Kind::ForAllTypes as usize {
         let part = part_of(true, i, x, 2);
-        return tables::entry(keys, part);
+        return keys[part];
     }
-    slots::place(obligation, second, m, false, keys, slots, i, x) + 1
+    slots::place(files, false, keys, slots, i, x) + 1
 }
 
 // Fills the table with the keys of all its records; past the end of the files a record reads as zeros. The slots are scratch: zeros before, and
 // zeros again.
-pub fn key_all(obligation: &[u8], second: &[u8], m: usize, keys: &mut [usize], slots: &mut [u32])
+pub fn key_all(files: &Files, keys: &mut [usize], slots: &mut [u32])
     requires { (length keys.old ≤ 262143) × (4096 + 2 * length keys.old ≤ length slots.old) × Zeros slots.old }
-    ensures { Table (word obligation.now second.now m) keys.new × Zeros slots.new }
+    ensures { Table (words files.now) keys.new × Zeros slots.new }
 {
     if keys.len() == 0 {
         return;
     }
     keys[0] = 0;
-    let mut i: usize = 1;
-    while i < keys.len() {
-        keys[i] = record_key(obligation, second, m, keys, slots, i);
-        i += 1;
+    for i in 1..keys.len() {
+        keys[i] = record_key(files, keys, slots, i);
     }
-    slots::clear(slots);
+    slots.fill(0);
 }

@@ -1,6 +1,7 @@
 // Refusal 15: letters that stand for one thing are equal, replacement, closedness.
+// A rule has no name but its number.
 ghost use Rattle.std.specs.Prelude.{◌≡◌, ◌<◌, length};
-ghost use Rattle.reader.specs.Words.{word};
+ghost use Rattle.reader.specs.Files.{words};
 ghost use Rattle.reader.specs.Tests.{every};
 ghost use Rattle.derivation_rules.specs.Erase.{bare_parts};
 ghost use Rattle.derivation_trees.specs.Keys.{decoded};
@@ -16,25 +17,18 @@ use derivation_frames::links;
 use derivation_replacement::replace;
 use derivation_tables::tables;
 use derivation_trees::keys;
-use reader::{trees, words};
+use reader::Files;
 
 // Are the items of chain c closed?
-fn are_closed(
-    obligation: &[u8],
-    second: &[u8],
-    m: usize,
-    keys: &[usize],
-    reaches: &[u16],
-    c: usize,
-) -> bool
-    requires { Tables (word obligation.now second.now m) keys.now reaches.now × (c < length keys.now) }
-    ensures { result ≡ every is_closed (chain_trees (word obligation.now second.now m) c) }
+fn are_closed(files: &Files, keys: &[usize], reaches: &[u16], c: usize) -> bool
+    requires { Tables (words files.now) keys.now reaches.now × (c < length keys.now) }
+    ensures { result ≡ every is_closed (chain_trees (words files.now) c) }
 {
     let mut l = c;
     while l != 0 {
-        let link = links::link_at(obligation, second, m, l);
-        let x = keys::key_of(obligation, second, m, keys, link.item);
-        if !closed::is_below(obligation, second, m, keys, reaches, x, 0) {
+        let link = links::link_at(files, l);
+        let x = keys::key_of(files, keys, link.item);
+        if !closed::is_below(files, keys, reaches, x, 0) {
             return false;
         }
         l = link.next;
@@ -43,29 +37,18 @@ fn are_closed(
 }
 
 // Is what forms a and b name of node n equal?
-fn forms_equal(
-    obligation: &[u8],
-    second: &[u8],
-    m: usize,
-    keys: &[usize],
-    goal: usize,
-    n: usize,
-    a: usize,
-    b: usize,
-) -> bool
-    requires { Given (word obligation.now second.now m) keys.now goal n }
-    ensures { result ≡ equal_forms (bare_parts (word obligation.now second.now m) n) (decoded (word obligation.now second.now m) goal) a b }
+fn forms_equal(files: &Files, keys: &[usize], goal: usize, n: usize, a: usize, b: usize) -> bool
+    requires { Given (words files.now) keys.now goal n }
+    ensures { result ≡ equal_forms (bare_parts (words files.now) n) (decoded (words files.now) goal) a b }
 {
-    let u = forms::form_key(obligation, second, m, keys, goal, n, a);
-    let v = forms::form_key(obligation, second, m, keys, goal, n, b);
+    let u = forms::form_key(files, keys, goal, n, a);
+    let v = forms::form_key(files, keys, goal, n, b);
     u == v
 }
 
 // Is what form x names of node n what form j names, with what form t names in place of index 0?
 fn forms_replaced(
-    obligation: &[u8],
-    second: &[u8],
-    m: usize,
+    files: &Files,
     keys: &[usize],
     reaches: &[u16],
     known: &mut [usize],
@@ -75,53 +58,45 @@ fn forms_replaced(
     t: usize,
     j: usize,
 ) -> bool
-    requires { Given (word obligation.now second.now m) keys.now goal n × Tables (word obligation.now second.now m) keys.now reaches.now × Known (word obligation.now second.now m) known.old }
-    ensures { (result ≡ replaced_forms (bare_parts (word obligation.now second.now m) n) (decoded (word obligation.now second.now m) goal) x t j) × Known (word obligation.now second.now m) known.new }
+    requires { Given (words files.now) keys.now goal n × Tables (words files.now) keys.now reaches.now × Known (words files.now) known.old }
+    ensures { (result ≡ replaced_forms (bare_parts (words files.now) n) (decoded (words files.now) goal) x t j) × Known (words files.now) known.new }
 {
-    let u = forms::form_key(obligation, second, m, keys, goal, n, x);
-    let v = forms::form_key(obligation, second, m, keys, goal, n, t);
-    let w = forms::form_key(obligation, second, m, keys, goal, n, j);
-    replace::is_replaced(obligation, second, m, keys, reaches, known, u, v, w)
+    let u = forms::form_key(files, keys, goal, n, x);
+    let v = forms::form_key(files, keys, goal, n, t);
+    let w = forms::form_key(files, keys, goal, n, j);
+    replace::is_replaced(files, keys, reaches, known, u, v, w)
 }
 
 // R9: is B open in index 0 at most, are the other parts closed, is the third B(E) and the goal B(F)?
 fn equality_fits(
-    obligation: &[u8],
-    second: &[u8],
-    m: usize,
+    files: &Files,
     keys: &[usize],
     reaches: &[u16],
     known: &mut [usize],
     goal: usize,
     n: usize,
 ) -> bool
-    requires { Given (word obligation.now second.now m) keys.now goal n × Tables (word obligation.now second.now m) keys.now reaches.now × Known (word obligation.now second.now m) known.old }
-    ensures { (result ≡ equality_fits (bare_parts (word obligation.now second.now m) n) (decoded (word obligation.now second.now m) goal)) × Known (word obligation.now second.now m) known.new }
+    requires { Given (words files.now) keys.now goal n × Tables (words files.now) keys.now reaches.now × Known (words files.now) known.old }
+    ensures { (result ≡ equality_fits (bare_parts (words files.now) n) (decoded (words files.now) goal)) × Known (words files.now) known.new }
 {
-    let c = trees::lower_at(obligation, second, m, n, 1);
-    let rest = trees::lower_at(obligation, second, m, c, 3);
-    let body = forms::form_key(obligation, second, m, keys, goal, n, 8);
-    if !closed::is_below(obligation, second, m, keys, reaches, body, 1) {
+    let c = files.lower_at(n, 1);
+    let rest = files.lower_at(c, 3);
+    let body = forms::form_key(files, keys, goal, n, 8);
+    if !closed::is_below(files, keys, reaches, body, 1) {
         return false;
     }
-    if !are_closed(obligation, second, m, keys, reaches, rest) {
+    if !are_closed(files, keys, reaches, rest) {
         return false;
     }
-    if !forms_replaced(
-        obligation, second, m, keys, reaches, known, goal, n, 16, 13, 8,
-    ) {
+    if !forms_replaced(files, keys, reaches, known, goal, n, 16, 13, 8) {
         return false;
     }
-    forms_replaced(
-        obligation, second, m, keys, reaches, known, goal, n, 4, 14, 8,
-    )
+    forms_replaced(files, keys, reaches, known, goal, n, 4, 14, 8)
 }
 
 // Do the letters of rule k fit at node n: two forms equal, or one another with a third in it?
 fn letters_fit(
-    obligation: &[u8],
-    second: &[u8],
-    m: usize,
+    files: &Files,
     keys: &[usize],
     reaches: &[u16],
     known: &mut [usize],
@@ -129,13 +104,13 @@ fn letters_fit(
     n: usize,
     k: usize,
 ) -> bool
-    requires { Given (word obligation.now second.now m) keys.now goal n × Tables (word obligation.now second.now m) keys.now reaches.now × Known (word obligation.now second.now m) known.old }
-    ensures { (result ≡ letters_fit k (bare_parts (word obligation.now second.now m) n) (decoded (word obligation.now second.now m) goal)) × Known (word obligation.now second.now m) known.new }
+    requires { Given (words files.now) keys.now goal n × Tables (words files.now) keys.now reaches.now × Known (words files.now) known.old }
+    ensures { (result ≡ letters_fit k (bare_parts (words files.now) n) (decoded (words files.now) goal)) × Known (words files.now) known.new }
 {
     let a = tables::column(k, 8);
     if a != 0 {
         let b = tables::column(k, 9);
-        return forms_equal(obligation, second, m, keys, goal, n, a, b);
+        return forms_equal(files, keys, goal, n, a, b);
     }
     let x = tables::column(k, 10);
     if x == 0 {
@@ -143,26 +118,22 @@ fn letters_fit(
     }
     let t = tables::column(k, 11);
     let j = tables::column(k, 12);
-    forms_replaced(
-        obligation, second, m, keys, reaches, known, goal, n, x, t, j,
-    )
+    forms_replaced(files, keys, reaches, known, goal, n, x, t, j)
 }
 
 // Do the parts of node n fit, as its rule asks?
 pub fn fits(
-    obligation: &[u8],
-    second: &[u8],
-    m: usize,
+    files: &Files,
     keys: &[usize],
     reaches: &[u16],
     known: &mut [usize],
     goal: usize,
     n: usize,
 ) -> bool
-    requires { Given (word obligation.now second.now m) keys.now goal n × Tables (word obligation.now second.now m) keys.now reaches.now × Known (word obligation.now second.now m) known.old }
-    ensures { (result ≡ node_fits (word obligation.now second.now m) (decoded (word obligation.now second.now m) goal) n) × Known (word obligation.now second.now m) known.new }
+    requires { Given (words files.now) keys.now goal n × Tables (words files.now) keys.now reaches.now × Known (words files.now) known.old }
+    ensures { (result ≡ node_fits (words files.now) (decoded (words files.now) goal) n) × Known (words files.now) known.new }
 {
-    let k = words::word_at(obligation, second, m, n, 0);
+    let k = files.word_at(n, 0);
     if k < 64 {
         return false;
     }
@@ -170,11 +141,11 @@ pub fn fits(
         return false;
     }
     if k == 79 {
-        return equality_fits(obligation, second, m, keys, reaches, known, goal, n);
+        return equality_fits(files, keys, reaches, known, goal, n);
     }
-    let c = trees::lower_at(obligation, second, m, n, 1);
-    if !are_closed(obligation, second, m, keys, reaches, c) {
+    let c = files.lower_at(n, 1);
+    if !are_closed(files, keys, reaches, c) {
         return false;
     }
-    letters_fit(obligation, second, m, keys, reaches, known, goal, n, k)
+    letters_fit(files, keys, reaches, known, goal, n, k)
 }

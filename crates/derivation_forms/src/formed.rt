@@ -1,6 +1,6 @@
 // The form of parts and goal: every sign that the rules show around the letters, and the class of what has no sign.
 ghost use Rattle.std.specs.Prelude.{◌≡◌, ◌<◌, length};
-ghost use Rattle.reader.specs.Words.{word};
+ghost use Rattle.reader.specs.Files.{words};
 ghost use Rattle.reader.specs.Tests.{every};
 ghost use Rattle.reader.specs.Trees.{lower};
 ghost use Rattle.reader.specs.Shapes.{have_shapes};
@@ -14,20 +14,13 @@ ghost use Rattle.derivation_forms.specs.Formed.{is_formula, parts_formed, goal_s
 use derivation_frames::links;
 use derivation_tables::tables;
 use derivation_trees::{keys, parts, shapes};
-use reader::kinds;
+use reader::kinds::Class;
+use reader::{Files, kinds};
 
 // Are the items of chain c n, with the shapes that the bytes of `code` number, the lowest byte the first's?
-fn have_shapes(
-    obligation: &[u8],
-    second: &[u8],
-    m: usize,
-    keys: &[usize],
-    c: usize,
-    n: usize,
-    code: usize,
-) -> bool
-    requires { Table (word obligation.now second.now m) keys.now × (c < length keys.now) }
-    ensures { result ≡ have_shapes (shapes_of n code) (chain_trees (word obligation.now second.now m) c) }
+fn have_shapes(files: &Files, keys: &[usize], c: usize, n: usize, code: usize) -> bool
+    requires { Table (words files.now) keys.now × (c < length keys.now) }
+    ensures { result ≡ have_shapes (shapes_of n code) (chain_trees (words files.now) c) }
 {
     let mut l = c;
     let mut left = n;
@@ -36,9 +29,9 @@ fn have_shapes(
         if left == 0 {
             return false;
         }
-        let link = links::link_at(obligation, second, m, l);
-        let x = keys::key_of(obligation, second, m, keys, link.item);
-        if !shapes::has_shape(obligation, second, m, keys, x, rest % 256) {
+        let link = links::link_at(files, l);
+        let x = keys::key_of(files, keys, link.item);
+        if !shapes::has_shape(files, keys, x, rest % 256) {
             return false;
         }
         l = link.next;
@@ -49,24 +42,24 @@ fn have_shapes(
 }
 
 // Is the tree with this key a formula?
-pub fn is_formula(obligation: &[u8], second: &[u8], m: usize, keys: &[usize], key: usize) -> bool
-    requires { Normal (word obligation.now second.now m) (length keys.now) key }
-    ensures { result ≡ is_formula (decoded (word obligation.now second.now m) key) }
+pub fn is_formula(files: &Files, keys: &[usize], key: usize) -> bool
+    requires { Normal (words files.now) (length keys.now) key }
+    ensures { result ≡ is_formula (decoded (words files.now) key) }
 {
-    let k = parts::kind_of(obligation, second, m, keys, key);
-    kinds::class_of(k) == 5
+    let k = parts::kind_of(files, keys, key);
+    kinds::class_of(k) == Class::Formula as u8
 }
 
 // Are the items of chain c formulas?
-fn are_formulas(obligation: &[u8], second: &[u8], m: usize, keys: &[usize], c: usize) -> bool
-    requires { Table (word obligation.now second.now m) keys.now × (c < length keys.now) }
-    ensures { result ≡ every is_formula (chain_trees (word obligation.now second.now m) c) }
+fn are_formulas(files: &Files, keys: &[usize], c: usize) -> bool
+    requires { Table (words files.now) keys.now × (c < length keys.now) }
+    ensures { result ≡ every is_formula (chain_trees (words files.now) c) }
 {
     let mut l = c;
     while l != 0 {
-        let link = links::link_at(obligation, second, m, l);
-        let x = keys::key_of(obligation, second, m, keys, link.item);
-        if !is_formula(obligation, second, m, keys, x) {
+        let link = links::link_at(files, l);
+        let x = keys::key_of(files, keys, link.item);
+        if !is_formula(files, keys, x) {
             return false;
         }
         l = link.next;
@@ -75,42 +68,26 @@ fn are_formulas(obligation: &[u8], second: &[u8], m: usize, keys: &[usize], c: u
 }
 
 // Have the parts of node n, whose chain is c, the number, classes and forms of its rule k, whose byte is `byte`?
-pub fn parts_formed(
-    obligation: &[u8],
-    second: &[u8],
-    m: usize,
-    keys: &[usize],
-    n: usize,
-    k: usize,
-    c: usize,
-    byte: u8,
-) -> bool
-    requires { Table (word obligation.now second.now m) keys.now × (n < length keys.now) × (k ≡ word obligation.now second.now m n 0) × (c ≡ lower (word obligation.now second.now m) n 1) × (byte ≡ derivation_byte k) }
-    ensures { result ≡ parts_formed (word obligation.now second.now m) n }
+pub fn parts_formed(files: &Files, keys: &[usize], n: usize, k: usize, c: usize, byte: u8) -> bool
+    requires { Table (words files.now) keys.now × (n < length keys.now) × (k ≡ words files.now n 0) × (c ≡ lower (words files.now) n 1) × (byte ≡ derivation_byte k) }
+    ensures { result ≡ parts_formed (words files.now) n }
 {
     let count = reader_bytes::parts_of(byte);
     // The number varies: BR2 keeps any number of members.
     if count == 15 {
-        return are_formulas(obligation, second, m, keys, c);
+        return are_formulas(files, keys, c);
     }
-    have_shapes(obligation, second, m, keys, c, count, tables::column(k, 0))
+    have_shapes(files, keys, c, count, tables::column(k, 0))
 }
 
 // Has the goal the form that rule k shows, where it shows one?
-pub fn goal_formed(
-    obligation: &[u8],
-    second: &[u8],
-    m: usize,
-    keys: &[usize],
-    goal: usize,
-    k: usize,
-) -> bool
-    requires { Normal (word obligation.now second.now m) (length keys.now) goal }
-    ensures { result ≡ goal_shaped k (decoded (word obligation.now second.now m) goal) }
+pub fn goal_formed(files: &Files, keys: &[usize], goal: usize, k: usize) -> bool
+    requires { Normal (words files.now) (length keys.now) goal }
+    ensures { result ≡ goal_shaped k (decoded (words files.now) goal) }
 {
     let s = tables::column(k, 1);
     if s == 0 {
         return true;
     }
-    shapes::has_shape(obligation, second, m, keys, goal, s)
+    shapes::has_shape(files, keys, goal, s)
 }

@@ -3,8 +3,8 @@ use Rattle.std.specs.Prelude.{ℕ, ◌≡◌}
 use Rattle.reader.specs.Tests.{if_lt}
 use Rattle.reader.specs.Words.{Reader}
 use Rattle.reader.specs.Trees.{lower}
-use Rattle.reader_view.specs.declared.Record.{Record}
-use Rattle.reader_view.specs.Records.{RecordIs}
+use Rattle.reader.specs.declared.Record.{Record}
+use Rattle.reader.specs.Fetched.{RecordIs}
 use Rattle.derivation_frames.specs.declared.Node.{Node}
 use Rattle.derivation_frames.specs.declared.Link.{Link}
 

@@ -1,11 +1,11 @@
 // Nodes and links: each is one record, which is fetched once.
 ghost use Rattle.std.specs.Prelude.{◌≡◌};
+ghost use Rattle.reader.specs.Files.{words};
 ghost use Rattle.reader.specs.Tests.{if_lt};
-ghost use Rattle.reader.specs.Words.{word};
 ghost use Rattle.derivation_frames.specs.Links.{NodeIs, LinkIs};
 
 use crate::{Link, Node};
-use reader_view::views;
+use reader::Files;
 
 // What word a of record i refers to, 0 where that is no smaller record.
 fn lowered(i: usize, a: usize) -> usize
@@ -15,10 +15,10 @@ fn lowered(i: usize, a: usize) -> usize
 }
 
 // Node n.
-pub fn node_at(obligation: &[u8], second: &[u8], m: usize, n: usize) -> Node
-    ensures { NodeIs (word obligation.now second.now m) n result }
+pub fn node_at(files: &Files, n: usize) -> Node
+    ensures { NodeIs (words files.now) n result }
 {
-    let x = views::record_of(obligation, second, m, n);
+    let x = files.record_at(n);
     Node {
         kind: x.kind,
         parts: lowered(n, x.a),
@@ -27,10 +27,10 @@ pub fn node_at(obligation: &[u8], second: &[u8], m: usize, n: usize) -> Node
 }
 
 // Link l.
-pub fn link_at(obligation: &[u8], second: &[u8], m: usize, l: usize) -> Link
-    ensures { LinkIs (word obligation.now second.now m) l result }
+pub fn link_at(files: &Files, l: usize) -> Link
+    ensures { LinkIs (words files.now) l result }
 {
-    let x = views::record_of(obligation, second, m, l);
+    let x = files.record_at(l);
     Link {
         item: lowered(l, x.a),
         next: lowered(l, x.c),

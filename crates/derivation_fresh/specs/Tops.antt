@@ -1,5 +1,5 @@
 -- The largest record that a member or the goal may have a constant in: what is known to lack it is passed over. The ways out of the code that finds and uses it.
-use Rattle.std.specs.Prelude.{ℕ, ◌+◌, ◌-◌, ◌%◌, ◌<◌, ◌≤◌, ◌≡◌, refl, List, Bool, not, ltb}
+use Rattle.std.specs.Prelude.{ℕ, ◌+◌, ◌-◌, ◌%◌, ◌<◌, ◌≤◌, ◌≡◌, max, refl, List, Bool, not, ltb}
 use Rattle.std.proofs.Math.Path.{sym}
 use Rattle.std.proofs.Common.{◌∙◌}
 use Rattle.std.proofs.Math.Bool.{true, false}
@@ -111,11 +111,11 @@ chain_own rd c chain = record { far = λ p. absurd (omega arith) }
 module _ (rd : Reader) (size : ℕ) (frames : List ℕ) (c d : ℕ) (here : Framed rd size frames d) where
   pub rising_start : (s chain goal a b top : ℕ) → s ≡ start_at frames d → chain ≡ entry_at frames s → goal ≡ goal_at frames d →
       ChainTop rd c chain a → a ≤ chain → KeyTop rd c goal b → b ≤ body_of goal →
-      (a ≤ top) × (b ≤ top) × ((x : ℕ) → a ≤ x → b ≤ x → top ≤ x) → Rising rd size frames c d s top
+      top ≡ max a b → Rising rd size frames c d s top
   rising_start s chain goal a b top es ec eg p la q lb h = record {
-    low = h.2 size (omega (arith, low)) (omega (arith, small));
-    chain = rw (← es, ← ec) (chain_above rd c chain a top h.0 p);
-    goal = rw (← eg) (key_above rd c goal b top h.1 q);
+    low = omega (arith, low, small);
+    chain = rw (← es, ← ec) (chain_above rd c chain a top (omega arith) p);
+    goal = rw (← eg) (key_above rd c goal b top (omega arith) q);
     added = λ g u v. absurd (omega arith);
   }
     where
@@ -126,12 +126,12 @@ module _ (rd : Reader) (size : ℕ) (frames : List ℕ) (c d : ℕ) (here : Fram
       small = rw eg here.goal.inside
 
   pub rising_more : (s f e b top next : ℕ) → s ≡ start_at frames d → s ≤ f → f < d → Rising rd size frames c d f top → e ≡ entry_at frames (f + 1) →
-      EntryTop rd c e b → b ≤ entry_body e → (top ≤ next) × (b ≤ next) × ((x : ℕ) → top ≤ x → b ≤ x → next ≤ x) → Rising rd size frames c d (f + 1) next
+      EntryTop rd c e b → b ≤ entry_body e → next ≡ max top b → Rising rd size frames c d (f + 1) next
   unfolding entry_body
   rising_more s f e b top next es low less rising ee q lb h = record {
-    low = h.2 size rising.low (small (eqb e 0) refl);
-    chain = chain_above rd c _ top next h.0 rising.chain;
-    goal = key_above rd c _ top next h.0 rising.goal;
+    low = omega (arith, rising.low, small (eqb e 0) refl);
+    chain = chain_above rd c _ top next (omega arith) rising.chain;
+    goal = key_above rd c _ top next (omega arith) rising.goal;
     added = λ g u v. go g u v (ltb g (f + 1)) refl;
   }
     where
@@ -144,11 +144,11 @@ module _ (rd : Reader) (size : ℕ) (frames : List ℕ) (c d : ℕ) (here : Fram
           omega (arith, normal.inside)
 
       go : (g : ℕ) → start_at frames d < g → g ≤ f + 1 → (z : Bool) → ltb g (f + 1) ≡ z → EntryTop rd c (entry_at frames g) next
-      go g u v true z = let near : g < f + 1 = ltb-true g (f + 1) z in entry_above rd c _ top next h.0 (rising.added g u (omega arith))
+      go g u v true z = let near : g < f + 1 = ltb-true g (f + 1) z in entry_above rd c _ top next (omega arith) (rising.added g u (omega arith))
       go g u v false z =
           let far : f + 1 ≤ g = ltb-false g (f + 1) z in
           let one : g ≡ f + 1 = omega arith in
-          rw (one, ← ee) (entry_above rd c e b next h.1 q)
+          rw (one, ← ee) (entry_above rd c e b next (omega arith) q)
 
   pub rising_end : (f top : ℕ) → d ≤ f → Rising rd size frames c d f top → Topped rd frames c d top
   rising_end f top h rising = record { chain = rising.chain; goal = rising.goal; added = λ g p q. rising.added g p (omega arith) }

@@ -1,8 +1,9 @@
 // Refusal 16: the constant of R7 is in neither a member nor the goal. The records up to the largest that may have it are marked first, each once, in the table of
 // reaches, and the marks are then taken off again. What was found to lack the constant is known from then on, and no record is marked for it again. Where that would
 // be many, the records of the goal and the members are gathered first: a constant that is not among them, whichever it is, needs no marks there.
+// A rule has no name but its number.
 ghost use Rattle.std.specs.Prelude.{◌≡◌, suc, ◌-◌, ◌<◌, ◌≤◌, length};
-ghost use Rattle.reader.specs.Words.{word};
+ghost use Rattle.reader.specs.Files.{words};
 ghost use Rattle.reader.specs.Tests.{every};
 ghost use Rattle.derivation_trees.specs.Keys.{decoded, Normal};
 ghost use Rattle.derivation_trees.specs.Table.{Table};
@@ -20,13 +21,11 @@ use derivation_frames::frames;
 use derivation_known::facts;
 use derivation_marks::marks;
 use derivation_trees::{keys, parts};
-use reader::{trees, words};
+use reader::Files;
 
 // Is constant c not in the tree with this key, by the marks of the records below `top`? That it is not is made known.
 fn key_lacks(
-    obligation: &[u8],
-    second: &[u8],
-    m: usize,
+    files: &Files,
     keys: &[usize],
     reaches: &[u16],
     known: &mut [usize],
@@ -34,11 +33,11 @@ fn key_lacks(
     top: usize,
     key: usize,
 ) -> bool
-    requires { Marking (word obligation.now second.now m) keys.now reaches.now c top × Normal (word obligation.now second.now m) top key × Known (word obligation.now second.now m) known.old }
-    ensures { (result ≡ lacks c (decoded (word obligation.now second.now m) key)) × Known (word obligation.now second.now m) known.new }
+    requires { Marking (words files.now) keys.now reaches.now c top × Normal (words files.now) top key × Known (words files.now) known.old }
+    ensures { (result ≡ lacks c (decoded (words files.now) key)) × Known (words files.now) known.new }
 {
     let few = &keys[..top];
-    if marks::key_marked(obligation, second, m, few, reaches, c, key) {
+    if marks::key_marked(files, few, reaches, c, key) {
         return false;
     }
     facts::keep_lacks(known, c, key);
@@ -47,9 +46,7 @@ fn key_lacks(
 
 // Is constant c in no item of the chain?
 fn chain_lacks(
-    obligation: &[u8],
-    second: &[u8],
-    m: usize,
+    files: &Files,
     keys: &[usize],
     reaches: &[u16],
     known: &mut [usize],
@@ -57,26 +54,24 @@ fn chain_lacks(
     top: usize,
     chain: usize,
 ) -> bool
-    requires { Table (word obligation.now second.now m) keys.now × Marking (word obligation.now second.now m) keys.now reaches.now c top × (chain ≤ top) × (chain < length keys.now) × Known (word obligation.now second.now m) known.old }
-    ensures { (result ≡ every (lacks c) (chain_trees (word obligation.now second.now m) chain)) × Known (word obligation.now second.now m) known.new }
+    requires { Table (words files.now) keys.now × Marking (words files.now) keys.now reaches.now c top × (chain ≤ top) × (chain < length keys.now) × Known (words files.now) known.old }
+    ensures { (result ≡ every (lacks c) (chain_trees (words files.now) chain)) × Known (words files.now) known.new }
 {
     let mut l = chain;
     while l != 0 {
-        let item = trees::lower_at(obligation, second, m, l, 1);
-        let x = keys::key_of(obligation, second, m, keys, item);
-        if !key_lacks(obligation, second, m, keys, reaches, known, c, top, x) {
+        let item = files.lower_at(l, 1);
+        let x = keys::key_of(files, keys, item);
+        if !key_lacks(files, keys, reaches, known, c, top, x) {
             return false;
         }
-        l = trees::lower_at(obligation, second, m, l, 3);
+        l = files.lower_at(l, 3);
     }
     true
 }
 
 // Is constant c not in the tree with this key? Above `top` it is known not to be.
 fn lacks_below(
-    obligation: &[u8],
-    second: &[u8],
-    m: usize,
+    files: &Files,
     keys: &[usize],
     reaches: &[u16],
     known: &mut [usize],
@@ -84,20 +79,18 @@ fn lacks_below(
     top: usize,
     key: usize,
 ) -> bool
-    requires { Marking (word obligation.now second.now m) keys.now reaches.now c top × Normal (word obligation.now second.now m) (length keys.now) key × KeyTop (word obligation.now second.now m) c key top × Known (word obligation.now second.now m) known.old }
-    ensures { (result ≡ lacks c (decoded (word obligation.now second.now m) key)) × Known (word obligation.now second.now m) known.new }
+    requires { Marking (words files.now) keys.now reaches.now c top × Normal (words files.now) (length keys.now) key × KeyTop (words files.now) c key top × Known (words files.now) known.old }
+    ensures { (result ≡ lacks c (decoded (words files.now) key)) × Known (words files.now) known.new }
 {
     if top < key % 262144 {
         return true;
     }
-    key_lacks(obligation, second, m, keys, reaches, known, c, top, key)
+    key_lacks(files, keys, reaches, known, c, top, key)
 }
 
 // Is constant c not in what entry e of a frame adds?
 fn entry_lacks(
-    obligation: &[u8],
-    second: &[u8],
-    m: usize,
+    files: &Files,
     keys: &[usize],
     reaches: &[u16],
     known: &mut [usize],
@@ -105,20 +98,18 @@ fn entry_lacks(
     top: usize,
     e: usize,
 ) -> bool
-    requires { Marking (word obligation.now second.now m) keys.now reaches.now c top × ((e ≡ 0 → ⊥) → Normal (word obligation.now second.now m) (length keys.now) (e - 1)) × EntryTop (word obligation.now second.now m) c e top × Known (word obligation.now second.now m) known.old }
-    ensures { (result ≡ every (lacks c) (added_by (word obligation.now second.now m) e)) × Known (word obligation.now second.now m) known.new }
+    requires { Marking (words files.now) keys.now reaches.now c top × ((e ≡ 0 → ⊥) → Normal (words files.now) (length keys.now) (e - 1)) × EntryTop (words files.now) c e top × Known (words files.now) known.old }
+    ensures { (result ≡ every (lacks c) (added_by (words files.now) e)) × Known (words files.now) known.new }
 {
     if e == 0 {
         return true;
     }
-    lacks_below(obligation, second, m, keys, reaches, known, c, top, e - 1)
+    lacks_below(files, keys, reaches, known, c, top, e - 1)
 }
 
 // Is constant c in no member that the frames above depth s, to depth d, add?
 fn added_lacks(
-    obligation: &[u8],
-    second: &[u8],
-    m: usize,
+    files: &Files,
     keys: &[usize],
     frames: &[usize],
     reaches: &[u16],
@@ -128,25 +119,21 @@ fn added_lacks(
     top: usize,
     s: usize,
 ) -> bool
-    requires { Framed (word obligation.now second.now m) (length keys.now) frames.now d × Topped (word obligation.now second.now m) frames.now c d top × Marking (word obligation.now second.now m) keys.now reaches.now c top × (s ≡ start_at frames.now d) × Known (word obligation.now second.now m) known.old }
-    ensures { (result ≡ every (lacks c) (added_from (word obligation.now second.now m) frames.now (d - s) (suc s))) × Known (word obligation.now second.now m) known.new }
+    requires { Framed (words files.now) (length keys.now) frames.now d × Topped (words files.now) frames.now c d top × Marking (words files.now) keys.now reaches.now c top × (s ≡ start_at frames.now d) × Known (words files.now) known.old }
+    ensures { (result ≡ every (lacks c) (added_from (words files.now) frames.now (d - s) (suc s))) × Known (words files.now) known.new }
 {
-    let mut f = s;
-    while f < d {
+    for f in s..d {
         let e = frames::entry_at(frames, f + 1);
-        if !entry_lacks(obligation, second, m, keys, reaches, known, c, top, e) {
+        if !entry_lacks(files, keys, reaches, known, c, top, e) {
             return false;
         }
-        f += 1;
     }
     true
 }
 
 // Is constant c in no item of the chain of members? Above `top` it is known not to be.
 fn chain_below(
-    obligation: &[u8],
-    second: &[u8],
-    m: usize,
+    files: &Files,
     keys: &[usize],
     reaches: &[u16],
     known: &mut [usize],
@@ -154,20 +141,18 @@ fn chain_below(
     top: usize,
     chain: usize,
 ) -> bool
-    requires { Table (word obligation.now second.now m) keys.now × Marking (word obligation.now second.now m) keys.now reaches.now c top × ChainTop (word obligation.now second.now m) c chain top × (chain < length keys.now) × Known (word obligation.now second.now m) known.old }
-    ensures { (result ≡ every (lacks c) (chain_trees (word obligation.now second.now m) chain)) × Known (word obligation.now second.now m) known.new }
+    requires { Table (words files.now) keys.now × Marking (words files.now) keys.now reaches.now c top × ChainTop (words files.now) c chain top × (chain < length keys.now) × Known (words files.now) known.old }
+    ensures { (result ≡ every (lacks c) (chain_trees (words files.now) chain)) × Known (words files.now) known.new }
 {
     if top < chain {
         return true;
     }
-    chain_lacks(obligation, second, m, keys, reaches, known, c, top, chain)
+    chain_lacks(files, keys, reaches, known, c, top, chain)
 }
 
 // Is constant c in no member at depth d?
 fn members_lack(
-    obligation: &[u8],
-    second: &[u8],
-    m: usize,
+    files: &Files,
     keys: &[usize],
     frames: &[usize],
     reaches: &[u16],
@@ -176,24 +161,20 @@ fn members_lack(
     c: usize,
     top: usize,
 ) -> bool
-    requires { Table (word obligation.now second.now m) keys.now × Framed (word obligation.now second.now m) (length keys.now) frames.now d × Topped (word obligation.now second.now m) frames.now c d top × Marking (word obligation.now second.now m) keys.now reaches.now c top × Known (word obligation.now second.now m) known.old }
-    ensures { (result ≡ every (lacks c) (members_at (word obligation.now second.now m) frames.now d)) × Known (word obligation.now second.now m) known.new }
+    requires { Table (words files.now) keys.now × Framed (words files.now) (length keys.now) frames.now d × Topped (words files.now) frames.now c d top × Marking (words files.now) keys.now reaches.now c top × Known (words files.now) known.old }
+    ensures { (result ≡ every (lacks c) (members_at (words files.now) frames.now d)) × Known (words files.now) known.new }
 {
     let s = frames::start_at(frames, d);
     let chain = frames::entry_at(frames, s);
-    if !chain_below(obligation, second, m, keys, reaches, known, c, top, chain) {
+    if !chain_below(files, keys, reaches, known, c, top, chain) {
         return false;
     }
-    added_lacks(
-        obligation, second, m, keys, frames, reaches, known, d, c, top, s,
-    )
+    added_lacks(files, keys, frames, reaches, known, d, c, top, s)
 }
 
 // Is constant c in neither the goal nor a member at depth d, by the marks of the records below `top`?
 fn none_marked(
-    obligation: &[u8],
-    second: &[u8],
-    m: usize,
+    files: &Files,
     keys: &[usize],
     frames: &[usize],
     reaches: &[u16],
@@ -202,23 +183,19 @@ fn none_marked(
     c: usize,
     top: usize,
 ) -> bool
-    requires { Table (word obligation.now second.now m) keys.now × Framed (word obligation.now second.now m) (length keys.now) frames.now d × Topped (word obligation.now second.now m) frames.now c d top × (top ≤ length keys.now) × (length keys.now ≤ length reaches.now) × Marked (word obligation.now second.now m) c reaches.now top × Known (word obligation.now second.now m) known.old }
-    ensures { (result ≡ fresh_in c (decoded (word obligation.now second.now m) (goal_at frames.now d)) (members_at (word obligation.now second.now m) frames.now d)) × Known (word obligation.now second.now m) known.new }
+    requires { Table (words files.now) keys.now × Framed (words files.now) (length keys.now) frames.now d × Topped (words files.now) frames.now c d top × (top ≤ length keys.now) × (length keys.now ≤ length reaches.now) × Marked (words files.now) c reaches.now top × Known (words files.now) known.old }
+    ensures { (result ≡ fresh_in c (decoded (words files.now) (goal_at frames.now d)) (members_at (words files.now) frames.now d)) × Known (words files.now) known.new }
 {
     let goal = frames::goal_at(frames, d);
-    if !lacks_below(obligation, second, m, keys, reaches, known, c, top, goal) {
+    if !lacks_below(files, keys, reaches, known, c, top, goal) {
         return false;
     }
-    members_lack(
-        obligation, second, m, keys, frames, reaches, known, d, c, top,
-    )
+    members_lack(files, keys, frames, reaches, known, d, c, top)
 }
 
 // Is constant c in neither the goal nor a member at depth d? The marks are taken off again, so that the table stays as it was.
 fn is_fresh(
-    obligation: &[u8],
-    second: &[u8],
-    m: usize,
+    files: &Files,
     keys: &[usize],
     frames: &[usize],
     reaches: &mut [u16],
@@ -226,23 +203,19 @@ fn is_fresh(
     d: usize,
     c: usize,
 ) -> bool
-    requires { Table (word obligation.now second.now m) keys.now × Framed (word obligation.now second.now m) (length keys.now) frames.now d × (length keys.now ≤ length reaches.old) × Unmarked reaches.old × Known (word obligation.now second.now m) known.old }
-    ensures { (result ≡ fresh_in c (decoded (word obligation.now second.now m) (goal_at frames.now d)) (members_at (word obligation.now second.now m) frames.now d)) × (reaches.new ≡ reaches.old) × Known (word obligation.now second.now m) known.new }
+    requires { Table (words files.now) keys.now × Framed (words files.now) (length keys.now) frames.now d × (length keys.now ≤ length reaches.old) × Unmarked reaches.old × Known (words files.now) known.old }
+    ensures { (result ≡ fresh_in c (decoded (words files.now) (goal_at frames.now d)) (members_at (words files.now) frames.now d)) × (reaches.new ≡ reaches.old) × Known (words files.now) known.new }
 {
-    let top = settled_top(obligation, second, m, keys, frames, known, d, c);
-    marks::mark_all(obligation, second, m, reaches, c, top);
-    let fresh = none_marked(
-        obligation, second, m, keys, frames, reaches, known, d, c, top,
-    );
+    let top = settled_top(files, keys, frames, known, d, c);
+    marks::mark_all(files, reaches, c, top);
+    let fresh = none_marked(files, keys, frames, reaches, known, d, c, top);
     marks::unmark_all(reaches, c, top);
     fresh
 }
 
 // Is the constant of node n fresh, where its rule has one? The table of reaches stays as it was.
 pub fn constant_fresh(
-    obligation: &[u8],
-    second: &[u8],
-    m: usize,
+    files: &Files,
     keys: &[usize],
     frames: &[usize],
     reaches: &mut [u16],
@@ -250,15 +223,15 @@ pub fn constant_fresh(
     d: usize,
     n: usize,
 ) -> bool
-    requires { At (word obligation.now second.now m) keys.now frames.now d n × (length keys.now ≤ length reaches.old) × Unmarked reaches.old × Known (word obligation.now second.now m) known.old }
-    ensures { (result ≡ node_fresh (word obligation.now second.now m) (members_at (word obligation.now second.now m) frames.now d) (decoded (word obligation.now second.now m) (goal_at frames.now d)) n) × (reaches.new ≡ reaches.old) × Known (word obligation.now second.now m) known.new }
+    requires { At (words files.now) keys.now frames.now d n × (length keys.now ≤ length reaches.old) × Unmarked reaches.old × Known (words files.now) known.old }
+    ensures { (result ≡ node_fresh (words files.now) (members_at (words files.now) frames.now d) (decoded (words files.now) (goal_at frames.now d)) n) × (reaches.new ≡ reaches.old) × Known (words files.now) known.new }
 {
-    let k = words::word_at(obligation, second, m, n, 0);
+    let k = files.word_at(n, 0);
     if k != 77 {
         return true;
     }
     let goal = frames::goal_at(frames, d);
-    let key = forms::form_key(obligation, second, m, keys, goal, n, 8);
-    let c = parts::atom_of(obligation, second, m, keys, key);
-    is_fresh(obligation, second, m, keys, frames, reaches, known, d, c)
+    let key = forms::form_key(files, keys, goal, n, 8);
+    let c = parts::atom_of(files, keys, key);
+    is_fresh(files, keys, frames, reaches, known, d, c)
 }

@@ -1,6 +1,6 @@
 // The largest record that a member or the goal may have the constant of R7 in: keys of which the table of known facts has that they lack it are passed over.
-ghost use Rattle.std.specs.Prelude.{◌≡◌, true, ℕ, ◌-◌, ◌<◌, ◌≤◌, length};
-ghost use Rattle.reader.specs.Words.{word};
+ghost use Rattle.std.specs.Prelude.{◌≡◌, true, ◌-◌, ◌<◌, ◌≤◌, length};
+ghost use Rattle.reader.specs.Files.{words};
 ghost use Rattle.reader.specs.Tests.{every};
 ghost use Rattle.derivation_trees.specs.Keys.{body_of};
 ghost use Rattle.derivation_trees.specs.Table.{Table};
@@ -13,29 +13,12 @@ use derivation_frames::frames;
 use derivation_gathered::gathered::extend;
 use derivation_known::facts;
 use derivation_trees::keys;
-use reader::trees;
-
-// The larger of two numbers.
-fn larger(a: usize, b: usize) -> usize
-    ensures { (a ≤ result) × (b ≤ result) × ((x : ℕ) → a ≤ x → b ≤ x → result ≤ x) }
-{
-    if a < b {
-        return b;
-    }
-    a
-}
+use reader::Files;
 
 // A number above the record of the key, or 0 where c is known not to be in its tree.
-fn key_top(
-    obligation: &[u8],
-    second: &[u8],
-    m: usize,
-    known: &[usize],
-    c: usize,
-    key: usize,
-) -> usize
-    requires { Known (word obligation.now second.now m) known.now }
-    ensures { KeyTop (word obligation.now second.now m) c key result × (result ≤ body_of key) }
+fn key_top(files: &Files, known: &[usize], c: usize, key: usize) -> usize
+    requires { Known (words files.now) known.now }
+    ensures { KeyTop (words files.now) c key result × (result ≤ body_of key) }
 {
     if facts::lacks_known(known, c, key) {
         return 0;
@@ -44,62 +27,40 @@ fn key_top(
 }
 
 // The same of what entry e of a frame adds.
-fn entry_top(
-    obligation: &[u8],
-    second: &[u8],
-    m: usize,
-    known: &[usize],
-    c: usize,
-    e: usize,
-) -> usize
-    requires { Known (word obligation.now second.now m) known.now }
-    ensures { EntryTop (word obligation.now second.now m) c e result × (result ≤ entry_body e) }
+fn entry_top(files: &Files, known: &[usize], c: usize, e: usize) -> usize
+    requires { Known (words files.now) known.now }
+    ensures { EntryTop (words files.now) c e result × (result ≤ entry_body e) }
 {
     if e == 0 {
         return 0;
     }
-    key_top(obligation, second, m, known, c, e - 1)
+    key_top(files, known, c, e - 1)
 }
 
 // Is c known to be in no item of the chain?
-fn chain_known(
-    obligation: &[u8],
-    second: &[u8],
-    m: usize,
-    keys: &[usize],
-    known: &[usize],
-    c: usize,
-    chain: usize,
-) -> bool
-    requires { Table (word obligation.now second.now m) keys.now × (chain < length keys.now) × Known (word obligation.now second.now m) known.now }
-    ensures { result ≡ true → every (lacks c) (chain_trees (word obligation.now second.now m) chain) ≡ true }
+// No loop in common with `chain_lacks` of fresh.rt, no plainer: that one tells exactly and writes to the table, this one reads it and may say no.
+fn chain_known(files: &Files, keys: &[usize], known: &[usize], c: usize, chain: usize) -> bool
+    requires { Table (words files.now) keys.now × (chain < length keys.now) × Known (words files.now) known.now }
+    ensures { result ≡ true → every (lacks c) (chain_trees (words files.now) chain) ≡ true }
 {
     let mut l = chain;
     while l != 0 {
-        let item = trees::lower_at(obligation, second, m, l, 1);
-        let x = keys::key_of(obligation, second, m, keys, item);
+        let item = files.lower_at(l, 1);
+        let x = keys::key_of(files, keys, item);
         if !facts::lacks_known(known, c, x) {
             return false;
         }
-        l = trees::lower_at(obligation, second, m, l, 3);
+        l = files.lower_at(l, 3);
     }
     true
 }
 
 // A number above the records of the chain, or 0 where c is known to be in none of its items.
-fn chain_top(
-    obligation: &[u8],
-    second: &[u8],
-    m: usize,
-    keys: &[usize],
-    known: &[usize],
-    c: usize,
-    chain: usize,
-) -> usize
-    requires { Table (word obligation.now second.now m) keys.now × (chain < length keys.now) × Known (word obligation.now second.now m) known.now }
-    ensures { ChainTop (word obligation.now second.now m) c chain result × (result ≤ chain) }
+fn chain_top(files: &Files, keys: &[usize], known: &[usize], c: usize, chain: usize) -> usize
+    requires { Table (words files.now) keys.now × (chain < length keys.now) × Known (words files.now) known.now }
+    ensures { ChainTop (words files.now) c chain result × (result ≤ chain) }
 {
-    if chain_known(obligation, second, m, keys, known, c, chain) {
+    if chain_known(files, keys, known, c, chain) {
         return 0;
     }
     chain
@@ -107,30 +68,25 @@ fn chain_top(
 
 // A number above the records of the members and the goal at depth d that c may be in.
 fn top_of(
-    obligation: &[u8],
-    second: &[u8],
-    m: usize,
+    files: &Files,
     keys: &[usize],
     frames: &[usize],
     known: &[usize],
     d: usize,
     c: usize,
 ) -> usize
-    requires { Table (word obligation.now second.now m) keys.now × Framed (word obligation.now second.now m) (length keys.now) frames.now d × Known (word obligation.now second.now m) known.now }
-    ensures { Topped (word obligation.now second.now m) frames.now c d result × (result ≤ length keys.now) }
+    requires { Table (words files.now) keys.now × Framed (words files.now) (length keys.now) frames.now d × Known (words files.now) known.now }
+    ensures { Topped (words files.now) frames.now c d result × (result ≤ length keys.now) }
 {
     let s = frames::start_at(frames, d);
     let chain = frames::entry_at(frames, s);
     let goal = frames::goal_at(frames, d);
-    let a = chain_top(obligation, second, m, keys, known, c, chain);
-    let b = key_top(obligation, second, m, known, c, goal);
-    let mut top = larger(a, b);
-    let mut f = s;
-    while f < d {
+    let a = chain_top(files, keys, known, c, chain);
+    let b = key_top(files, known, c, goal);
+    let mut top = a.max(b);
+    for f in s..d {
         let e = frames::entry_at(frames, f + 1);
-        let b = entry_top(obligation, second, m, known, c, e);
-        top = larger(top, b);
-        f += 1;
+        top = top.max(entry_top(files, known, c, e));
     }
     top
 }
@@ -138,25 +94,23 @@ fn top_of(
 // A number above the records of the members and the goal at depth d that c may be in. Where many records would have to be marked for c, some part of all there are,
 // those of the goal and the members are gathered first: where c is not among them, it needs no marks.
 pub fn settled_top(
-    obligation: &[u8],
-    second: &[u8],
-    m: usize,
+    files: &Files,
     keys: &[usize],
     frames: &[usize],
     known: &mut [usize],
     d: usize,
     c: usize,
 ) -> usize
-    requires { Table (word obligation.now second.now m) keys.now × Framed (word obligation.now second.now m) (length keys.now) frames.now d × Known (word obligation.now second.now m) known.old }
-    ensures { Topped (word obligation.now second.now m) frames.now c d result × (result ≤ length keys.now) × Known (word obligation.now second.now m) known.new }
+    requires { Table (words files.now) keys.now × Framed (words files.now) (length keys.now) frames.now d × Known (words files.now) known.old }
+    ensures { Topped (words files.now) frames.now c d result × (result ≤ length keys.now) × Known (words files.now) known.new }
 {
-    let top = top_of(obligation, second, m, keys, frames, known, d, c);
+    let top = top_of(files, keys, frames, known, d, c);
     if top <= c {
         return top;
     }
     if top - c < 4096 + keys.len() / 16 {
         return top;
     }
-    extend(obligation, second, m, keys, frames, known, d, c);
-    top_of(obligation, second, m, keys, frames, known, d, c)
+    extend(files, keys, frames, known, d, c);
+    top_of(files, keys, frames, known, d, c)
 }

@@ -10,8 +10,8 @@ use Rattle.reader.specs.Words.{Reader}
 use Rattle.reader.specs.Tests.{if_lt, if_true}
 use Rattle.reader.specs.Kinds.{role_at}
 use Rattle.reader.specs.Trees.{lower}
-use Rattle.reader_view.specs.declared.Record.{Record}
-use Rattle.reader_view.specs.Records.{RecordIs}
+use Rattle.reader.specs.declared.Record.{Record}
+use Rattle.reader.specs.Fetched.{RecordIs}
 use Rattle.reader_equality.specs.declared.Parts.{Parts}
 use Rattle.reader_equality.specs.Keys.{is_part, part_at, part_in_lem}
 use Rattle.reader_equality.specs.Shapes.{PartsAre}
@@ -181,8 +181,8 @@ closed_none rd known k v ev h closed = record { parts = λ i low small holds w p
         not_held known i (held_none known i (rw (← word) (sym ev ∙ h))) holds
     go i low small holds w p q false e = closed.parts i (ltb-false i (64 * k + 64) e) small holds w p q
 
-pub closed_at : (rd : Reader) (known : List ℕ) (n j : ℕ) → n ≡ j → ClosedFrom rd known n → ClosedFrom rd known j
-closed_at rd known n j e closed = rw (← e) closed
+pub closed_later : (rd : Reader) (known : List ℕ) (n j : ℕ) → n ≤ j → ClosedFrom rd known n → ClosedFrom rd known j
+closed_later rd known n j h closed = record { parts = λ i low. closed.parts i (omega arith) }
 
 pub closed_far : (rd : Reader) (known : List ℕ) (n : ℕ) → 262144 ≤ n → ClosedFrom rd known n
 closed_far rd known n h = record { parts = λ i low small holds w p q. absurd (omega arith) }

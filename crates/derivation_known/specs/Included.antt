@@ -3,8 +3,8 @@ use Rattle.std.specs.Prelude.{ℕ, zero, suc, ◌<◌, ◌≤◌, ◌≡◌, ref
 use Rattle.std.proofs.Common.{sym, ◌∙◌, arith, eqb-true}
 use Rattle.std.proofs.lemmas.Bool.{false≢true, eqb-false, not-false}
 use Rattle.reader.specs.Words.{Reader}
-use Rattle.reader_view.specs.declared.Record.{Record}
-use Rattle.reader_view.specs.Records.{RecordIs}
+use Rattle.reader.specs.declared.Record.{Record}
+use Rattle.reader.specs.Fetched.{RecordIs}
 use Rattle.reader_equality.specs.declared.Parts.{Parts}
 use Rattle.reader_equality.specs.Keys.{part_at, part_in_lem}
 use Rattle.reader_equality.specs.Shapes.{PartsAre}

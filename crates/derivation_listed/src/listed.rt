@@ -4,7 +4,7 @@ ghost use Rattle.reader_equality.specs.Tables.{Zeros};
 ghost use Rattle.reader_slots.specs.Slots.{Placed, Ended};
 ghost use Rattle.derivation_listed.specs.Listed.{spread, listed_key, is_listed, Indexed, Space};
 
-use reader_equality::{Key, tables};
+use reader_equality::Key;
 use reader_slots::slots;
 
 // A number as a key of the search tree.
@@ -29,7 +29,7 @@ fn slot_of(listed: &[usize], slots: &[u32], k: usize, i: usize) -> usize
     let mut slot = reader_equality::keys::bucket_of(rest);
     let mut j = slots::record_in(slots, slot);
     while j != 0 {
-        if tables::entry(listed, j) == k {
+        if listed[j] == k {
             return slot;
         }
         slot = slots::slot_under(j, rest);
@@ -44,7 +44,7 @@ fn place(listed: &[usize], slots: &mut [u32], i: usize)
     requires { (0 < i) × Space listed.now slots.old i × Indexed listed.now slots.old i }
     ensures { Indexed listed.now slots.new (i + 1) }
 {
-    let slot = slot_of(listed, slots, tables::entry(listed, i), i);
+    let slot = slot_of(listed, slots, listed[i], i);
     let j = slots::record_in(slots, slot);
     if j != 0 {
         return;
@@ -57,10 +57,8 @@ pub fn place_all(listed: &[usize], slots: &mut [u32], last: usize)
     requires { Zeros slots.old × Space listed.now slots.old last }
     ensures { Indexed listed.now slots.new (last + 1) }
 {
-    let mut i: usize = 1;
-    while i <= last {
+    for i in 1..=last {
         place(listed, slots, i);
-        i += 1;
     }
 }
 

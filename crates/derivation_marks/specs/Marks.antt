@@ -14,8 +14,8 @@ use Rattle.reader.specs.Kinds.{is_symbol, role_at}
 use Rattle.reader.specs.Trees.{Tree, lower, child, atom, ¬ᵗ◌}
 use Rattle.reader.specs.Variables.{is_constant, occurs}
 use Rattle.reader.specs.TreeLaws.{below}
-use Rattle.reader_view.specs.declared.Record.{Record}
-use Rattle.reader_view.specs.Records.{RecordIs, word_in, word_in_lem}
+use Rattle.reader.specs.declared.Record.{Record}
+use Rattle.reader.specs.Fetched.{RecordIs, word_in, word_in_lem}
 use Rattle.reader_equality.specs.Keys.{is_part, part_at, part_in, part_below, part_in_lem}
 use Rattle.derivation_rules.specs.Erase.{bare_tree}
 use Rattle.derivation_trees.specs.Erased.{bare_zero, bare_true, bare_all, bare_node}

@@ -1,6 +1,7 @@
 // Refusal 14: what must be in the sequent, and for BR1 what must not.
+// A rule has no name but its number.
 ghost use Rattle.std.specs.Prelude.{◌≡◌, ◌+◌, ◌<◌, [], length};
-ghost use Rattle.reader.specs.Words.{word};
+ghost use Rattle.reader.specs.Files.{words};
 ghost use Rattle.reader.specs.Tests.{every};
 ghost use Rattle.reader.specs.Trees.{lower};
 ghost use Rattle.derivation_trees.specs.Keys.{decoded};
@@ -16,25 +17,24 @@ use derivation_listed::{filled, listed};
 use derivation_members::members;
 use derivation_tables::tables;
 use derivation_trees::keys;
+use reader::Files;
 
 // Is every item of chain c one of the h trees that are listed?
 fn items_listed(
-    obligation: &[u8],
-    second: &[u8],
-    m: usize,
+    files: &Files,
     keys: &[usize],
     listed: &[usize],
     slots: &[u32],
     h: usize,
     c: usize,
 ) -> bool
-    requires { Table (word obligation.now second.now m) keys.now × (c < length keys.now) × Space listed.now slots.now h × Indexed listed.now slots.now (h + 1) × Filled (word obligation.now second.now m) (length keys.now) listed.now h [] (listed_trees (word obligation.now second.now m) listed.now h 1) }
-    ensures { result ≡ every (held (listed_trees (word obligation.now second.now m) listed.now h 1)) (chain_trees (word obligation.now second.now m) c) }
+    requires { Table (words files.now) keys.now × (c < length keys.now) × Space listed.now slots.now h × Indexed listed.now slots.now (h + 1) × Filled (words files.now) (length keys.now) listed.now h [] (listed_trees (words files.now) listed.now h 1) }
+    ensures { result ≡ every (held (listed_trees (words files.now) listed.now h 1)) (chain_trees (words files.now) c) }
 {
     let mut l = c;
     while l != 0 {
-        let link = links::link_at(obligation, second, m, l);
-        let x = keys::key_of(obligation, second, m, keys, link.item);
+        let link = links::link_at(files, l);
+        let x = keys::key_of(files, keys, link.item);
         if !listed::is_listed(listed, slots, h, x) {
             return false;
         }
@@ -45,49 +45,31 @@ fn items_listed(
 
 // Is every item of chain c a member at depth d? The members are listed first, for there may be 2,048 items and as many members. This is called at two
 // places: the compiler puts a function that is called at one place into its caller, and the tables would then be in the stack of every node.
-fn many_held(
-    obligation: &[u8],
-    second: &[u8],
-    m: usize,
-    keys: &[usize],
-    frames: &[usize],
-    d: usize,
-    n: usize,
-    c: usize,
-) -> bool
-    requires { At (word obligation.now second.now m) keys.now frames.now d n × (c < length keys.now) }
-    ensures { result ≡ every (held (members_at (word obligation.now second.now m) frames.now d)) (chain_trees (word obligation.now second.now m) c) }
+fn many_held(files: &Files, keys: &[usize], frames: &[usize], d: usize, n: usize, c: usize) -> bool
+    requires { At (words files.now) keys.now frames.now d n × (c < length keys.now) }
+    ensures { result ≡ every (held (members_at (words files.now) frames.now d)) (chain_trees (words files.now) c) }
 {
     let mut listed = [0usize; 2049];
     let mut slots = [0u32; 8194];
-    let h = filled::fill(obligation, second, m, keys, frames, d, &mut listed);
+    let h = filled::fill(files, keys, frames, d, &mut listed);
     listed::place_all(&listed, &mut slots, h);
-    items_listed(obligation, second, m, keys, &listed, &slots, h, c)
+    items_listed(files, keys, &listed, &slots, h, c)
 }
 
 // The same, by looking up each item, which is sooner done for few members; the rest of a long chain by tables.
-fn few_held(
-    obligation: &[u8],
-    second: &[u8],
-    m: usize,
-    keys: &[usize],
-    frames: &[usize],
-    d: usize,
-    n: usize,
-    c: usize,
-) -> bool
-    requires { At (word obligation.now second.now m) keys.now frames.now d n × (c < length keys.now) }
-    ensures { result ≡ every (held (members_at (word obligation.now second.now m) frames.now d)) (chain_trees (word obligation.now second.now m) c) }
+fn few_held(files: &Files, keys: &[usize], frames: &[usize], d: usize, n: usize, c: usize) -> bool
+    requires { At (words files.now) keys.now frames.now d n × (c < length keys.now) }
+    ensures { result ≡ every (held (members_at (words files.now) frames.now d)) (chain_trees (words files.now) c) }
 {
     let mut l = c;
     let mut left: usize = 16;
     while l != 0 {
         if left == 0 {
-            return many_held(obligation, second, m, keys, frames, d, n, l);
+            return many_held(files, keys, frames, d, n, l);
         }
-        let link = links::link_at(obligation, second, m, l);
-        let x = keys::key_of(obligation, second, m, keys, link.item);
-        if !members::holds(obligation, second, m, keys, frames, d, x) {
+        let link = links::link_at(files, l);
+        let x = keys::key_of(files, keys, link.item);
+        if !members::holds(files, keys, frames, d, x) {
             return false;
         }
         l = link.next;
@@ -97,33 +79,22 @@ fn few_held(
 }
 
 // The same, by tables where members or frames are many.
-fn items_held(
-    obligation: &[u8],
-    second: &[u8],
-    m: usize,
-    keys: &[usize],
-    frames: &[usize],
-    d: usize,
-    n: usize,
-    c: usize,
-) -> bool
-    requires { At (word obligation.now second.now m) keys.now frames.now d n × (c < length keys.now) }
-    ensures { result ≡ every (held (members_at (word obligation.now second.now m) frames.now d)) (chain_trees (word obligation.now second.now m) c) }
+fn items_held(files: &Files, keys: &[usize], frames: &[usize], d: usize, n: usize, c: usize) -> bool
+    requires { At (words files.now) keys.now frames.now d n × (c < length keys.now) }
+    ensures { result ≡ every (held (members_at (words files.now) frames.now d)) (chain_trees (words files.now) c) }
 {
     if 16 < frames::count_at(frames, d) {
-        return many_held(obligation, second, m, keys, frames, d, n, c);
+        return many_held(files, keys, frames, d, n, c);
     }
     if 16 < d - frames::start_at(frames, d) {
-        return many_held(obligation, second, m, keys, frames, d, n, c);
+        return many_held(files, keys, frames, d, n, c);
     }
-    few_held(obligation, second, m, keys, frames, d, n, c)
+    few_held(files, keys, frames, d, n, c)
 }
 
 // Are the members there that node n, of kind k, with parts chain c and at depth d, needs? BR2 needs its parts.
 pub fn needs_met(
-    obligation: &[u8],
-    second: &[u8],
-    m: usize,
+    files: &Files,
     keys: &[usize],
     frames: &[usize],
     d: usize,
@@ -131,38 +102,36 @@ pub fn needs_met(
     k: usize,
     c: usize,
 ) -> bool
-    requires { At (word obligation.now second.now m) keys.now frames.now d n × (k ≡ word obligation.now second.now m n 0) × (c ≡ lower (word obligation.now second.now m) n 1) }
-    ensures { result ≡ needs_held (word obligation.now second.now m) (members_at (word obligation.now second.now m) frames.now d) (decoded (word obligation.now second.now m) (goal_at frames.now d)) n }
+    requires { At (words files.now) keys.now frames.now d n × (k ≡ words files.now n 0) × (c ≡ lower (words files.now) n 1) }
+    ensures { result ≡ needs_held (words files.now) (members_at (words files.now) frames.now d) (decoded (words files.now) (goal_at frames.now d)) n }
 {
     if k == 65 {
-        return items_held(obligation, second, m, keys, frames, d, n, c);
+        return items_held(files, keys, frames, d, n, c);
     }
     let form = tables::column(k, 3);
     if form == 0 {
         return true;
     }
     let goal = frames::goal_at(frames, d);
-    let key = forms::form_in(obligation, second, m, keys, goal, n, c, form);
-    members::holds(obligation, second, m, keys, frames, d, key)
+    let key = forms::form_in(files, keys, goal, n, c, form);
+    members::holds(files, keys, frames, d, key)
 }
 
 // For BR1, k is 64: is every member at depth d the goal?
 pub fn only_goal(
-    obligation: &[u8],
-    second: &[u8],
-    m: usize,
+    files: &Files,
     keys: &[usize],
     frames: &[usize],
     d: usize,
     n: usize,
     k: usize,
 ) -> bool
-    requires { At (word obligation.now second.now m) keys.now frames.now d n × (k ≡ word obligation.now second.now m n 0) }
-    ensures { result ≡ only_goals (word obligation.now second.now m) n (members_at (word obligation.now second.now m) frames.now d) (decoded (word obligation.now second.now m) (goal_at frames.now d)) }
+    requires { At (words files.now) keys.now frames.now d n × (k ≡ words files.now n 0) }
+    ensures { result ≡ only_goals (words files.now) n (members_at (words files.now) frames.now d) (decoded (words files.now) (goal_at frames.now d)) }
 {
     if k != 64 {
         return true;
     }
     let goal = frames::goal_at(frames, d);
-    members::members_agree(obligation, second, m, keys, frames, d, goal, true)
+    members::members_agree(files, keys, frames, d, goal, true)
 }

@@ -1,6 +1,8 @@
 // The refusal of a node at its depth: 13 to 18, the lower number first.
+// A rule has no name but its number.
 ghost use Rattle.std.specs.Prelude.{◌≡◌, ◌≤◌, length};
-ghost use Rattle.reader.specs.Words.{word};
+ghost use Rattle.reader.specs.Files.{words};
+ghost use Rattle.reader.specs.Refusals.{fault_of};
 ghost use Rattle.reader.specs.Trees.{lower};
 ghost use Rattle.derivation_bytes.specs.Bytes.{derivation_byte};
 ghost use Rattle.derivation_trees.specs.Keys.{decoded};
@@ -22,40 +24,29 @@ use derivation_fresh::fresh;
 use derivation_kept::kept;
 use derivation_needs::needs;
 use derivation_tables::tables;
-use reader::{trees, words};
+use reader::{Fault, Files};
 
 // Has the goal the form that rule k of node n shows?
-fn goal_fits(
-    obligation: &[u8],
-    second: &[u8],
-    m: usize,
-    keys: &[usize],
-    frames: &[usize],
-    d: usize,
-    n: usize,
-    k: usize,
-) -> bool
-    requires { At (word obligation.now second.now m) keys.now frames.now d n × (k ≡ word obligation.now second.now m n 0) }
-    ensures { result ≡ goal_shaped_at (word obligation.now second.now m) (decoded (word obligation.now second.now m) (goal_at frames.now d)) n }
+fn goal_fits(files: &Files, keys: &[usize], frames: &[usize], d: usize, n: usize, k: usize) -> bool
+    requires { At (words files.now) keys.now frames.now d n × (k ≡ words files.now n 0) }
+    ensures { result ≡ goal_shaped_at (words files.now) (decoded (words files.now) (goal_at frames.now d)) n }
 {
     let goal = frames::goal_at(frames, d);
-    formed::goal_formed(obligation, second, m, keys, goal, k)
+    formed::goal_formed(files, keys, goal, k)
 }
 
 // Has node n, whose chain of premises is c, as many premises as its rule, each a rule node? `byte` is that of the rule.
-fn premises_fit(obligation: &[u8], second: &[u8], m: usize, n: usize, c: usize, byte: u8) -> bool
-    requires { (byte ≡ derivation_byte (word obligation.now second.now m n 0)) × (c ≡ lower (word obligation.now second.now m) n 2) }
-    ensures { result ≡ premises_at (word obligation.now second.now m) n }
+fn premises_fit(files: &Files, n: usize, c: usize, byte: u8) -> bool
+    requires { (byte ≡ derivation_byte (words files.now n 0)) × (c ≡ lower (words files.now) n 2) }
+    ensures { result ≡ premises_at (words files.now) n }
 {
     let count = reader_bytes::premises_of(byte);
-    premises::premises_fit(obligation, second, m, n, c, count)
+    premises::premises_fit(files, n, c, count)
 }
 
 // Are the members there that node n, of rule k and with parts chain c, needs, and for BR1 no other?
 fn members_fit(
-    obligation: &[u8],
-    second: &[u8],
-    m: usize,
+    files: &Files,
     keys: &[usize],
     frames: &[usize],
     d: usize,
@@ -63,20 +54,18 @@ fn members_fit(
     k: usize,
     c: usize,
 ) -> bool
-    requires { At (word obligation.now second.now m) keys.now frames.now d n × (k ≡ word obligation.now second.now m n 0) × (c ≡ lower (word obligation.now second.now m) n 1) }
-    ensures { result ≡ members_fit (word obligation.now second.now m) (members_at (word obligation.now second.now m) frames.now d) (decoded (word obligation.now second.now m) (goal_at frames.now d)) n }
+    requires { At (words files.now) keys.now frames.now d n × (k ≡ words files.now n 0) × (c ≡ lower (words files.now) n 1) }
+    ensures { result ≡ members_fit (words files.now) (members_at (words files.now) frames.now d) (decoded (words files.now) (goal_at frames.now d)) n }
 {
-    if !needs::needs_met(obligation, second, m, keys, frames, d, n, k, c) {
+    if !needs::needs_met(files, keys, frames, d, n, k, c) {
         return false;
     }
-    needs::only_goal(obligation, second, m, keys, frames, d, n, k)
+    needs::only_goal(files, keys, frames, d, n, k)
 }
 
 // Do the parts of node n fit, as its rule asks?
 fn parts_fit(
-    obligation: &[u8],
-    second: &[u8],
-    m: usize,
+    files: &Files,
     keys: &[usize],
     reaches: &[u16],
     known: &mut [usize],
@@ -84,22 +73,22 @@ fn parts_fit(
     d: usize,
     n: usize,
 ) -> bool
-    requires { At (word obligation.now second.now m) keys.now frames.now d n × Tables (word obligation.now second.now m) keys.now reaches.now × Known (word obligation.now second.now m) known.old }
-    ensures { (result ≡ node_fits (word obligation.now second.now m) (decoded (word obligation.now second.now m) (goal_at frames.now d)) n) × Known (word obligation.now second.now m) known.new }
+    requires { At (words files.now) keys.now frames.now d n × Tables (words files.now) keys.now reaches.now × Known (words files.now) known.old }
+    ensures { (result ≡ node_fits (words files.now) (decoded (words files.now) (goal_at frames.now d)) n) × Known (words files.now) known.new }
 {
     let goal = frames::goal_at(frames, d);
-    fits::fits(obligation, second, m, keys, reaches, known, goal, n)
+    fits::fits(files, keys, reaches, known, goal, n)
 }
 
 // Have the premises of node n room beside h members?
-fn room_beside(obligation: &[u8], second: &[u8], m: usize, h: usize, n: usize) -> bool
+fn room_beside(files: &Files, h: usize, n: usize) -> bool
     requires { h ≤ 262143 }
-    ensures { result ≡ node_room (word obligation.now second.now m) h n }
+    ensures { result ≡ node_room (words files.now) h n }
 {
-    let k = words::word_at(obligation, second, m, n, 0);
+    let k = files.word_at(n, 0);
     if k == 65 {
-        let c = trees::lower_at(obligation, second, m, n, 1);
-        return chain_length(obligation, second, m, c) <= 2048;
+        let c = files.lower_at(n, 1);
+        return chain_length(files, c) <= 2048;
     }
     let count = reader_bytes::premises_of(derivation_bytes::derivation_byte(k));
     if count == 0 {
@@ -110,133 +99,114 @@ fn room_beside(obligation: &[u8], second: &[u8], m: usize, h: usize, n: usize) -
 }
 
 // Have the premises of node n, at depth d, room?
-fn has_room(
-    obligation: &[u8],
-    second: &[u8],
-    m: usize,
-    keys: &[usize],
-    frames: &[usize],
-    d: usize,
-    n: usize,
-) -> bool
-    requires { At (word obligation.now second.now m) keys.now frames.now d n }
-    ensures { result ≡ node_room (word obligation.now second.now m) (length (members_at (word obligation.now second.now m) frames.now d)) n }
+fn has_room(files: &Files, keys: &[usize], frames: &[usize], d: usize, n: usize) -> bool
+    requires { At (words files.now) keys.now frames.now d n }
+    ensures { result ≡ node_room (words files.now) (length (members_at (words files.now) frames.now d)) n }
 {
     let h = frames::count_at(frames, d);
-    room_beside(obligation, second, m, h, n)
+    room_beside(files, h, n)
 }
 
-// Refusals 13 and 14 of node n at depth d, 0 for none.
+// Refusals 13 and 14 of node n at depth d.
 fn form_fault(
-    obligation: &[u8],
-    second: &[u8],
-    m: usize,
+    files: &Files,
     keys: &[usize],
     frames: &[usize],
     d: usize,
     n: usize,
-) -> usize
-    requires { At (word obligation.now second.now m) keys.now frames.now d n }
-    ensures { result ≡ form_fault (word obligation.now second.now m) (state_of (word obligation.now second.now m) frames.now d) n }
+) -> Result<(), Fault>
+    requires { At (words files.now) keys.now frames.now d n }
+    ensures { fault_of result ≡ form_fault (words files.now) (state_of (words files.now) frames.now d) n }
 {
-    let x = links::node_at(obligation, second, m, n);
+    let x = links::node_at(files, n);
     let byte = derivation_bytes::derivation_byte(x.kind);
-    if !formed::parts_formed(obligation, second, m, keys, n, x.kind, x.parts, byte) {
-        return 13;
+    if !formed::parts_formed(files, keys, n, x.kind, x.parts, byte) {
+        return Err(Fault::Form);
     }
-    if !goal_fits(obligation, second, m, keys, frames, d, n, x.kind) {
-        return 13;
+    if !goal_fits(files, keys, frames, d, n, x.kind) {
+        return Err(Fault::Form);
     }
-    if !premises_fit(obligation, second, m, n, x.premises, byte) {
-        return 13;
+    if !premises_fit(files, n, x.premises, byte) {
+        return Err(Fault::Form);
     }
-    if !members_fit(obligation, second, m, keys, frames, d, n, x.kind, x.parts) {
-        return 14;
+    if !members_fit(files, keys, frames, d, n, x.kind, x.parts) {
+        return Err(Fault::Member);
     }
-    0
+    Ok(())
 }
 
-// Refusals 15 to 18 of node n at depth d, 0 for none. The table of reaches comes back as it was.
+// Refusals 15 to 18 of node n at depth d. The table of reaches comes back as it was.
 fn fit_fault(
-    obligation: &[u8],
-    second: &[u8],
-    m: usize,
+    files: &Files,
     keys: &[usize],
     reaches: &mut [u16],
     known: &mut [usize],
     frames: &[usize],
     d: usize,
     n: usize,
-) -> usize
-    requires { At (word obligation.now second.now m) keys.now frames.now d n × Ready (word obligation.now second.now m) keys.now reaches.old × Known (word obligation.now second.now m) known.old }
-    ensures { (result ≡ fit_fault (word obligation.now second.now m) (state_of (word obligation.now second.now m) frames.now d) n) × (reaches.new ≡ reaches.old) × Known (word obligation.now second.now m) known.new }
+) -> Result<(), Fault>
+    requires { At (words files.now) keys.now frames.now d n × Ready (words files.now) keys.now reaches.old × Known (words files.now) known.old }
+    ensures { (fault_of result ≡ fit_fault (words files.now) (state_of (words files.now) frames.now d) n) × (reaches.new ≡ reaches.old) × Known (words files.now) known.new }
 {
-    if !parts_fit(obligation, second, m, keys, reaches, known, frames, d, n) {
-        return 15;
+    if !parts_fit(files, keys, reaches, known, frames, d, n) {
+        return Err(Fault::Fit);
     }
-    if !fresh::constant_fresh(obligation, second, m, keys, frames, reaches, known, d, n) {
-        return 16;
+    if !fresh::constant_fresh(files, keys, frames, reaches, known, d, n) {
+        return Err(Fault::Fresh);
     }
-    if !has_room(obligation, second, m, keys, frames, d, n) {
-        return 17;
+    if !has_room(files, keys, frames, d, n) {
+        return Err(Fault::Room);
     }
     if 8192 < d {
-        return 18;
+        return Err(Fault::Depth);
     }
-    0
+    Ok(())
 }
 
 // Is node n one of BR2 that passes, found in one run along its parts? It may pass all the same, where the answer is no.
 fn kept_passes(
-    obligation: &[u8],
-    second: &[u8],
-    m: usize,
+    files: &Files,
     keys: &[usize],
     reaches: &[u16],
     frames: &[usize],
     d: usize,
     n: usize,
 ) -> bool
-    requires { At (word obligation.now second.now m) keys.now frames.now d n × Tables (word obligation.now second.now m) keys.now reaches.now }
-    ensures { Passes (word obligation.now second.now m) frames.now d n result }
+    requires { At (words files.now) keys.now frames.now d n × Tables (words files.now) keys.now reaches.now }
+    ensures { Passes (words files.now) frames.now d n result }
 {
-    let x = links::node_at(obligation, second, m, n);
+    let x = links::node_at(files, n);
     if x.kind != 65 {
         return false;
     }
     let byte = derivation_bytes::derivation_byte(x.kind);
-    if !premises_fit(obligation, second, m, n, x.premises, byte) {
+    if !premises_fit(files, n, x.premises, byte) {
         return false;
     }
     let s = frames::start_at(frames, d);
     let b = frames::entry_at(frames, s);
     if d <= 8192 {
-        return kept::all_kept(obligation, second, m, keys, reaches, b, x.parts);
+        return kept::all_kept(files, keys, reaches, b, x.parts);
     }
     false
 }
 
-// The refusal of node n at depth d, 0 for none. The table of reaches comes back as it was.
+// The refusal of node n at depth d. The table of reaches comes back as it was.
 pub fn node_fault(
-    obligation: &[u8],
-    second: &[u8],
-    m: usize,
+    files: &Files,
     keys: &[usize],
     reaches: &mut [u16],
     known: &mut [usize],
     frames: &[usize],
     d: usize,
     n: usize,
-) -> usize
-    requires { At (word obligation.now second.now m) keys.now frames.now d n × Ready (word obligation.now second.now m) keys.now reaches.old × Known (word obligation.now second.now m) known.old }
-    ensures { (result ≡ node_fault (word obligation.now second.now m) (state_of (word obligation.now second.now m) frames.now d) n) × (reaches.new ≡ reaches.old) × Known (word obligation.now second.now m) known.new }
+) -> Result<(), Fault>
+    requires { At (words files.now) keys.now frames.now d n × Ready (words files.now) keys.now reaches.old × Known (words files.now) known.old }
+    ensures { (fault_of result ≡ node_fault (words files.now) (state_of (words files.now) frames.now d) n) × (reaches.new ≡ reaches.old) × Known (words files.now) known.new }
 {
-    if kept_passes(obligation, second, m, keys, reaches, frames, d, n) {
-        return 0;
+    if kept_passes(files, keys, reaches, frames, d, n) {
+        return Ok(());
     }
-    let why = form_fault(obligation, second, m, keys, frames, d, n);
-    if why != 0 {
-        return why;
-    }
-    fit_fault(obligation, second, m, keys, reaches, known, frames, d, n)
+    form_fault(files, keys, frames, d, n)?;
+    fit_fault(files, keys, reaches, known, frames, d, n)
 }

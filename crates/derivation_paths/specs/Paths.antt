@@ -13,8 +13,8 @@ use Rattle.reader.specs.Trees.{Tree, node, atom, same_head, same}
 use Rattle.reader.specs.TreeLaws.{same_self}
 use Rattle.reader.specs.Variables.{binders, is_index, indices_below, replaced}
 use Rattle.reader_closedness.specs.Reach.{reach, indices_reach, replaced_node, replaced_closed}
-use Rattle.reader_view.specs.declared.Record.{Record}
-use Rattle.reader_view.specs.Records.{RecordIs}
+use Rattle.reader.specs.declared.Record.{Record}
+use Rattle.reader.specs.Fetched.{RecordIs}
 use Rattle.reader_equality.specs.declared.Parts.{Parts}
 use Rattle.reader_equality.specs.Keys.{part_at, part_entry, atom_in, part_in, atom_in_lem, part_in_lem, part_in_below}
 use Rattle.reader_equality.specs.Shapes.{PartsAre}

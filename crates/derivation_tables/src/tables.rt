@@ -1,4 +1,5 @@
 // What the rules 64 to 80 ask and make, as a table.
+// A rule has no name but its number.
 ghost use Rattle.std.specs.Prelude.{◌≡◌, ◌+◌, ◌*◌, ◌<◌};
 ghost use Rattle.derivation_tables.specs.Tables.{digit, digits, columns, column};
 

@@ -29,16 +29,9 @@ fn print_answer(rt: &(impl Print + Eprint), obligation: &[u8], proof: &[u8]) {
 fn answer_files(rt: &(impl Files + Env + Print + Eprint), obligation: &mut [u8], proof: &mut [u8])
     requires { (length obligation.old ≡ obligation_read) × (length proof.old ≡ proof_read) }
 {
-    let first = files::load(rt, 1, obligation);
-    if !first.fine {
+    let Some((m, n)) = files::load_both(rt, obligation, proof) else {
         return;
-    }
-    let second = files::load(rt, 2, proof);
-    if !second.fine {
-        return;
-    }
-    let m = first.length;
-    let n = second.length;
+    };
     print_answer(rt, &obligation[..m], &proof[..n]);
 }
 

@@ -6,12 +6,15 @@ ghost use Rattle.std.specs.Prelude.{◌≡◌, length as size};
 ghost use Rattle.proof_rules.specs.Check.{proof_answer};
 ghost use Rattle.programs_lines.specs.Lines.{translation_line};
 ghost use Rattle.programs_limits.specs.Limits.{obligation_read, proof_read, buffer_size};
+ghost use Rattle.translation.specs.Numbers.{length_in};
 ghost use Rattle.programs_translation_answer.specs.Shown.{Derives};
 
 use programs::{arguments, files, output, saved};
 use programs_translation_answer::answer;
+use reader::Refusal;
 use std::env::Env;
 use std::fs::Files;
+use translation::Translation;
 
 // Saves bytes that the derivation check accepts beside the obligation, as its caller shows; whether it is done.
 fn save_derivation(rt: &(impl Files + Env + Eprint), obligation: &[u8], derivation: &[u8]) -> bool
@@ -20,15 +23,15 @@ fn save_derivation(rt: &(impl Files + Env + Eprint), obligation: &[u8], derivati
     saved::save(rt, 3, derivation)
 }
 
-// Writes to standard output bytes that are the line of the proof check's answer to two files and of a length, as its caller shows.
+// Writes to standard output bytes that are the line of the proof check's answer to two files and of the derivation's length, as its caller shows.
 fn write_answer(
     rt: &(impl Print + Eprint),
     obligation: &[u8],
     proof: &[u8],
-    length: usize,
+    translated: Result<Translation, Refusal>,
     text: &[u8],
 )
-    requires { text.now ≡ translation_line (proof_answer obligation.now proof.now) length }
+    requires { text.now ≡ translation_line (proof_answer obligation.now proof.now) (length_in translated) }
 {
     output::print(rt, text);
 }
@@ -44,14 +47,18 @@ fn answer_into(
 {
     let mut out = [0u8; 105];
     let outcome = answer::put_answer(obligation, proof, buffer, &mut out);
-    let length = outcome.length;
-    let begin = outcome.begin;
-    if outcome.refusal == 0 {
-        if !save_derivation(rt, obligation, &buffer[..length]) {
+    if let Ok(t) = outcome.translated {
+        if !save_derivation(rt, obligation, &buffer[..t.length]) {
             return;
         }
     }
-    write_answer(rt, obligation, proof, length, &out[begin..]);
+    write_answer(
+        rt,
+        obligation,
+        proof,
+        outcome.translated,
+        &out[outcome.begin..],
+    );
 }
 
 // Lends the buffer: that it has that length stands in its type, and is not computed.
@@ -74,16 +81,9 @@ fn answer_pair(rt: &(impl Files + Env + Print + Eprint), obligation: &[u8], proo
 fn answer_files(rt: &(impl Files + Env + Print + Eprint), obligation: &mut [u8], proof: &mut [u8])
     requires { (size obligation.old ≡ obligation_read) × (size proof.old ≡ proof_read) }
 {
-    let first = files::load(rt, 1, obligation);
-    if !first.fine {
+    let Some((m, n)) = files::load_both(rt, obligation, proof) else {
         return;
-    }
-    let second = files::load(rt, 2, proof);
-    if !second.fine {
-        return;
-    }
-    let m = first.length;
-    let n = second.length;
+    };
     answer_pair(rt, &obligation[..m], &proof[..n]);
 }
 

@@ -1,6 +1,6 @@
 -- The four numbers come back from what an entry answers, whatever the files and the buffer.
 use Rattle.std.specs.Prelude.{ℕ, ◌≡◌, List, length}
-use Rattle.std.proofs.Common.{ap, subst, ◌∙◌}
+use Rattle.std.proofs.Common.{ap, ◌∙◌}
 use Rattle.reader.specs.declared.Answer.{Answer}
 use Rattle.reader.specs.Places.{reading}
 use Rattle.proof_rules.specs.Check.{proof_answer}
@@ -26,9 +26,9 @@ module _ (ob s : List ℕ) (a : Answer) (n : ℕ) (e : n ≡ pack a) where
   reading_derivation_unpacks h = unpacks (reading 2 ob s) (reading_derivation_bounded ob s) n (e ∙ ap pack h)
 
   -- the translation's contract, at the definition's answer
-  pub translation_unpacks : (before after : List ℕ) (len : ℕ) → Translates ob s before after a len →
-      Unpacks n (translation_answer ob s (length before)) × Translates ob s before after (translation_answer ob s (length before)) len
-  translation_unpacks before after len t = (
-    unpacks (translation_answer ob s (length before)) (translation_bounded ob s (length before)) n (e ∙ ap pack t.answers),
-    subst (λ (x : Answer). Translates ob s before after x len) t.answers t,
+  pub translation_unpacks : (before after : List ℕ) (x : Answer) (len m : ℕ) → a ≡ x → m ≡ len → Translates ob s before after x len →
+      Unpacks n (translation_answer ob s (length before)) × Translates ob s before after (translation_answer ob s (length before)) m
+  translation_unpacks before after x len m h k t = (
+    unpacks (translation_answer ob s (length before)) (translation_bounded ob s (length before)) n (e ∙ ap pack (h ∙ t.answers)),
+    rw (k, ← t.answers) t,
   )

@@ -10,21 +10,23 @@ ghost use Rattle.favashears_pack.specs.Pack.{Unpacks};
 use derivation_check::check::check_derivation;
 use favashears_pack::packed::pack;
 use proof_check::check::check_proof;
+use reader::Answer;
 use reader_places::places::{read_derivation, read_proof};
+use translation::Translation;
 use translation::translate::translate;
 
 // The answer to an obligation and a proof.
 pub fn desk_check_proof(obligation: &[u8], proof: &[u8]) -> u64
     ensures { Unpacks result (proof_answer obligation.now proof.now) }
 {
-    pack(check_proof(obligation, proof))
+    pack(Answer::of(check_proof(obligation, proof)))
 }
 
 // The answer to an obligation and a derivation.
 pub fn desk_check_derivation(obligation: &[u8], derivation: &[u8]) -> u64
     ensures { Unpacks result (derivation_answer obligation.now derivation.now) }
 {
-    pack(check_derivation(obligation, derivation))
+    pack(Answer::of(check_derivation(obligation, derivation)))
 }
 
 // The answer to an obligation, a proof and a buffer, and the derivation's length, 0 on a refusal.
@@ -33,21 +35,22 @@ pub fn desk_translate(obligation: &[u8], proof: &[u8], buffer: &mut [u8], length
     ensures fact_2 { Translates obligation.now proof.now buffer.old buffer.new
         (translation_answer obligation.now proof.now (size buffer.old)) length.new }
 {
-    let t = translate(obligation, proof, buffer);
-    *length = t.length as u64;
-    pack(t.answer)
+    let translated = translate(obligation, proof, buffer);
+    let (answer, bytes) = Translation::numbers(translated);
+    *length = bytes as u64;
+    pack(answer)
 }
 
 // Places 1 to 12 of an obligation and a proof.
 pub fn desk_read_proof(obligation: &[u8], proof: &[u8]) -> u64
     ensures { Unpacks result (reading 1 obligation.now proof.now) }
 {
-    pack(read_proof(obligation, proof))
+    pack(Answer::of_reading(read_proof(obligation, proof)))
 }
 
 // Places 1 to 12 of an obligation and a derivation.
 pub fn desk_read_derivation(obligation: &[u8], derivation: &[u8]) -> u64
     ensures { Unpacks result (reading 2 obligation.now derivation.now) }
 {
-    pack(read_derivation(obligation, derivation))
+    pack(Answer::of_reading(read_derivation(obligation, derivation)))
 }

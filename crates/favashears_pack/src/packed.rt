@@ -8,12 +8,8 @@ use reader::Answer;
 pub fn pack(a: Answer) -> u64
     ensures { result ≡ pack a }
 {
-    let refusal = a.refusal;
-    let file = a.file;
-    let at = a.at;
-    let nodes = a.nodes;
-    ((refusal % 256) as u64) * 72057594037927936
-        + ((file % 256) as u64) * 281474976710656
-        + ((at % 16777216) as u64) * 16777216
-        + ((nodes % 16777216) as u64)
+    (((a.refusal % 256) as u64) << 56)
+        + (((a.file % 256) as u64) << 48)
+        + (((a.at % 16777216) as u64) << 24)
+        + ((a.nodes % 16777216) as u64)
 }

@@ -18,26 +18,22 @@ fn put_part(area: &mut [u8], name: &[u8]) -> usize
     text::append(area, end, b".part")
 }
 
-// Writes the bytes to an open file, as far as its device.
-fn write_through(file: &mut (impl Write + OpenFile), bytes: &[u8]) -> io::Result<()> {
+// Writes the bytes to an open file, as far as its device, and closes it.
+fn write_through<F: Write + OpenFile + Drop>(mut file: F, bytes: &[u8]) -> io::Result<()> {
     file.write_all(bytes)?;
     file.sync_all()
 }
 
-// Writes the bytes to an open file and closes it; whether that is done. Otherwise a message.
-fn fill<F: Write + OpenFile + Drop>(
-    rt: &impl Eprint,
-    mut file: F,
-    name: &[u8],
+// Writes the bytes to the temporary file, which is open, closes it and gives it the name.
+fn replace<F: Write + OpenFile + Drop>(
+    rt: &impl Files,
+    file: F,
+    name: &str,
+    part: &str,
     bytes: &[u8],
-) -> bool {
-    match write_through(&mut file, bytes) {
-        Ok(()) => true,
-        Err(why) => {
-            messages::fail(rt, name, why);
-            false
-        }
-    }
+) -> io::Result<()> {
+    write_through(file, bytes)?;
+    fs::rename(rt, part, name)
 }
 
 // Says why the temporary file can't be made. A file that has its name already is not this program's, and is left alone: the message names it.
@@ -62,14 +58,12 @@ fn save_by(rt: &(impl Files + Eprint), name: &str, part: &str, bytes: &[u8]) -> 
             return false;
         }
     };
-    if fill(rt, file, name.as_bytes(), bytes) {
-        match fs::rename(rt, part, name) {
-            Ok(()) => return true,
-            Err(why) => messages::fail(rt, name.as_bytes(), why),
-        }
+    if let Err(why) = replace(rt, file, name, part, bytes) {
+        messages::fail(rt, name.as_bytes(), why);
+        let _ = fs::remove_file(rt, part);
+        return false;
     }
-    let _ = fs::remove_file(rt, part);
-    false
+    true
 }
 
 // Writes the bytes to the file of that name. The area has room for any name that `save` takes, with `.part` behind it.

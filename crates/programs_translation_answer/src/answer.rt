@@ -1,14 +1,15 @@
 // The translation of two files, written into a lent buffer, and the line of its answer, written into a lent area.
+ghost use Rattle.translation.specs.Numbers.{answer_in, length_in};
 ghost use Rattle.programs_translation_answer.specs.Shown.{Shown};
 
 use programs_lines::lines;
-use translation::translate;
+use reader::Refusal;
+use translation::{Translation, translate};
 
-// What came of a pair: the answer's refusal, the derivation's length in the buffer, and where the line begins.
+// What came of a pair, and where the line begins.
 #[derive(Clone, Copy)]
 pub struct Outcome {
-    pub refusal: usize,
-    pub length: usize,
+    pub translated: Result<Translation, Refusal>,
     pub begin: usize,
 }
 
@@ -19,16 +20,10 @@ pub fn put_answer(
     buffer: &mut [u8],
     out: &mut [u8; 105],
 ) -> Outcome
-    ensures { Shown obligation.now proof.now buffer.old buffer.new out.old out.new result.refusal result.length result.begin }
+    ensures { Shown obligation.now proof.now buffer.old buffer.new out.old out.new (answer_in result.translated) (length_in result.translated) result.begin }
 {
-    let translation = translate::translate(obligation, proof, buffer);
-    let answer = translation.answer;
-    let length = translation.length;
+    let translated = translate::translate(obligation, proof, buffer);
+    let (answer, length) = Translation::numbers(translated);
     let begin = lines::put_translation(out, answer, length);
-    let refusal = answer.refusal;
-    Outcome {
-        refusal,
-        length,
-        begin,
-    }
+    Outcome { translated, begin }
 }

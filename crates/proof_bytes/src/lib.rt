@@ -1,5 +1,6 @@
 // One byte for each proof rule: its high half is the number of parts, its low half the number of premises, 15 a number that varies. The table is a `match`, as the compiler would write
 // a `const` array to the stack at each use. Refusal 13 reads a node's byte once and then both halves of it: so the compiler keeps the bytes as they are, and makes no table for each half.
+// A rule has no name but its number.
 #![tactic(auto)]
 
 ghost use Rattle.std.specs.Prelude.{◌≡◌};

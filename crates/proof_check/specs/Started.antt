@@ -1,5 +1,5 @@
 -- The start of the walk over a pair that passes places 1 to 12.
-use Rattle.std.specs.Prelude.{ℕ, suc, ◌+◌, ◌<◌, ◌≤◌, min, ◌≡◌, List, [], ◌∷◌, ◌++◌, true, length, take, replicate}
+use Rattle.std.specs.Prelude.{ℕ, zero, suc, ◌+◌, ◌<◌, ◌≤◌, min, ◌≡◌, List, [], ◌∷◌, ◌++◌, true, length, take, replicate}
 use Rattle.std.proofs.Math.Path.{refl}
 use Rattle.std.proofs.Common.{sym, ap, ◌∙◌, append_assoc, append-nil, arith}
 use Rattle.reader.specs.declared.Answer.{Answer}
@@ -81,14 +81,19 @@ module _ (rd : Reader) (numbers memory : List ℕ) (h l : ℕ) (left : Left rd n
         within = omega (arith, left.within);
       }
 
-pub left_falls : (rd : Reader) (l y : ℕ) → (l ≡ 0 → ⊥) → y ≡ lower rd l 3 → y < l
-left_falls rd l y pos e = omega (arith, lower_below rd l 3 (omega arith))
-
 pub left_none : (rd : Reader) (numbers memory : List ℕ) (h l : ℕ) → Left rd numbers memory h l → l ≡ 0 →
     Ready rd numbers memory h × (sequent rd memory h ≡ item_trees rd (hypothesis_chain rd)) × (h ≤ 256)
 left_none rd numbers memory h l left z =
     let none : item_trees rd l ≡ [] = rw z (trees_zero rd) in
     (left.ready, sym (append-nil (sequent rd memory h)) ∙ ap (λ (t : List Tree). sequent rd memory h ++ t) (sym none) ∙ left.rest, omega (arith, left.few))
+
+-- 256 were added, and no more are there
+pub left_full : (rd : Reader) (numbers memory : List ℕ) (l : ℕ) → Left rd numbers memory 256 l →
+    Ready rd numbers memory 256 × (sequent rd memory 256 ≡ item_trees rd (hypothesis_chain rd)) × (256 ≤ 256)
+left_full rd numbers memory zero left = left_none rd numbers memory 256 0 left refl
+left_full rd numbers memory (suc l) left =
+    let more : length (linked rd (suc l)) ≡ suc (length (linked rd (lower rd (suc l) 3))) = ap length (linked_step_lem rd (suc l) (omega arith)) in
+    absurd (omega (arith, left.few))
 
 -- with the goal
 pub start_stored : (rd : Reader) (numbers memory after : List ℕ) (h goal : ℕ) → goal ≡ rd 0 3 → sequent rd memory h ≡ item_trees rd (hypothesis_chain rd) →

@@ -1,56 +1,48 @@
 // The proof check of two byte areas.
 ghost use Rattle.std.specs.Prelude.{◌≡◌, ◌+◌, min, length};
-ghost use Rattle.reader.specs.declared.Answer.{Answer};
-ghost use Rattle.reader.specs.Words.{word, record_count};
+ghost use Rattle.reader.specs.Files.{words};
+ghost use Rattle.reader.specs.Refusals.{answer_of};
+ghost use Rattle.reader.specs.Words.{record_count};
 ghost use Rattle.reader.specs.Places.{count_of, root_of, obligation_reading};
 ghost use Rattle.proof_rules.specs.Check.{proof_walk, proof_answer};
 ghost use Rattle.proof_check.specs.Started.{Entering};
 
 use crate::start;
 use proof_walk::walk;
-use reader::{Answer, words};
+use reader::{Files, Refusal, words};
 use reader_closedness::fill::reach_all;
 use reader_places::places;
 
-// The walk over a pair that passes places 1 to 12. The tables are scratch, but for the numbers.
+// The walk over a pair that passes places 1 to 12: how many nodes it enters. The tables are scratch, but for the numbers.
 fn walk_proof(
-    obligation: &[u8],
-    proof: &[u8],
-    m: usize,
+    files: &Files,
     numbers: &[usize],
     reaches: &mut [usize],
     memory: &mut [usize],
     scratch: &mut [usize],
-) -> Answer
-    requires { Entering obligation.now proof.now m numbers.now memory.old scratch.old }
-    ensures { result ≡ proof_walk (word obligation.now proof.now m) (root_of proof.now) }
+) -> Result<usize, Refusal>
+    requires { Entering files.now.obligation.now files.now.second.now files.now.m numbers.now memory.old scratch.old }
+    ensures { answer_of result ≡ proof_walk (words files.now) (root_of files.now.second.now) }
 {
-    reach_all(obligation, proof, m, reaches);
-    let h = start::store_start(obligation, proof, m, numbers, memory);
-    let root = words::word_of(proof, 0, 2);
-    walk::walk_node(
-        obligation, proof, m, numbers, reaches, memory, scratch, h, root, 0,
-    )
+    reach_all(files, reaches);
+    let h = start::store_start(files, numbers, memory);
+    let root = words::word_of(files.second, 0, 2);
+    walk::walk_node(files, numbers, reaches, memory, scratch, h, root, 0)
 }
 
-// The answer to a proof beside an obligation of m records that passes its places. The numbers are found once, for the reading and for the walk.
-fn check_numbered(obligation: &[u8], proof: &[u8], m: usize, numbers: &mut [usize]) -> Answer
-    requires { ((obligation_reading obligation.now).refusal ≡ 0) × (m ≡ count_of obligation.now) × (length numbers.old ≡ min (m + record_count proof.now) 4096) }
-    ensures { result ≡ proof_answer obligation.now proof.now }
+// The check of a proof beside an obligation that passes its places. The numbers are found once, for the reading and for the walk.
+fn check_numbered(files: &Files, numbers: &mut [usize]) -> Result<usize, Refusal>
+    requires { ((obligation_reading files.now.obligation.now).refusal ≡ 0) × (files.now.m ≡ count_of files.now.obligation.now) × (length numbers.old ≡ min (files.now.m + record_count files.now.second.now) 4096) }
+    ensures { answer_of result ≡ proof_answer files.now.obligation.now files.now.second.now }
 {
-    places::number_records(obligation, proof, m, numbers);
-    let read = places::proof_reading(obligation, proof, m, numbers);
-    if read.refusal != 0 {
-        return read;
-    }
+    places::number_records(files, numbers);
+    places::proof_reading(files, numbers)?;
     let size = numbers.len();
     let mut reaches = [0usize; 8192];
     let mut memory = [0usize; 1024];
     let mut scratch = [0usize; 4096];
     walk_proof(
-        obligation,
-        proof,
-        m,
+        files,
         numbers,
         &mut reaches[..2 * size],
         &mut memory,
@@ -58,16 +50,14 @@ fn check_numbered(obligation: &[u8], proof: &[u8], m: usize, numbers: &mut [usiz
     )
 }
 
-// The answer to an obligation and a proof, any two byte areas.
-pub fn check_proof(obligation: &[u8], proof: &[u8]) -> Answer
-    ensures { result ≡ proof_answer obligation.now proof.now }
+// The check of an obligation and a proof, any two byte areas: how many nodes the walk enters.
+pub fn check_proof(obligation: &[u8], proof: &[u8]) -> Result<usize, Refusal>
+    ensures { answer_of result ≡ proof_answer obligation.now proof.now }
 {
-    let r = places::obligation_reading(obligation);
-    if r.refusal != 0 {
-        return r;
-    }
+    places::obligation_reading(obligation)?;
     let m = words::word_of(obligation, 0, 1);
-    let size = places::table_size(m, proof);
+    let files = Files::new(obligation, proof, m);
+    let size = places::table_size(&files);
     let mut numbers = [0usize; 4096];
-    check_numbered(obligation, proof, m, &mut numbers[..size])
+    check_numbered(&files, &mut numbers[..size])
 }

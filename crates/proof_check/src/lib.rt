@@ -1,4 +1,4 @@
-// The proof check: any two byte areas get the four numbers of the definition.
+// The proof check: any two byte areas get the answer of the definition, as a number of nodes or a refusal.
 #![tactic(auto)]
 
 pub mod check;

@@ -1,4 +1,5 @@
 // What the rules 32 to 46 say of the shapes of parts, as a table. It is a `match`, as the compiler would write a `const` array to the stack at each use.
+// A rule has no name but its number.
 ghost use Rattle.std.specs.Prelude.{◌≡◌};
 ghost use Rattle.proof_forms.specs.Tables.{shape_code};
 

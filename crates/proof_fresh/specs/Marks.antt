@@ -4,7 +4,6 @@ use Rattle.std.proofs.Math.Path.{refl}
 use Rattle.std.proofs.Common.{sym, ◌∙◌, get_or-set_same, get_or-set_other}
 use Rattle.std.proofs.Math.Bool.{true, false}
 use Rattle.std.proofs.Math.ListN.{drop_of_length-le}
-use Rattle.std.proofs.Math.Seq.{length-take-le}
 use native.Mathlib.Omega.{arith}
 use borrow.Author.Tests.{eq-eqb, ne_eqb, eqb-true, ltb-true, ltb-false}
 use Rattle.reader.specs.Words.{Reader}
@@ -15,7 +14,7 @@ use Rattle.reader.specs.Variables.{is_constant, occurs}
 use Rattle.reader.specs.TreeLaws.{below, child_below, tree_zero, tree_step_lem}
 use Rattle.reader.specs.Members.{is_fresh}
 use Rattle.proof_members.specs.Keys.{by_one, equation_of, right_of, left_of, body, decoded, Normal, body_equation, body_single, decoded_negation, decoded_plain}
-use Rattle.proof_members.specs.Sequents.{sequent, Ready, members_from, members_next, in_memory}
+use Rattle.proof_members.specs.Sequents.{sequent, members_from, members_next}
 
 -- the mark of a record: 1 where the constant is in it
 unfoldable pub mark_of : Bool → ℕ
@@ -205,21 +204,19 @@ fresh_cons : (c : ℕ) (u : Tree) (us : List Tree) → is_fresh (u ∷ us) c ≡
 unfolding is_fresh every
 fresh_cons c u us = refl
 
-module _ (rd : Reader) (numbers memory : List ℕ) (h c : ℕ) (ready : Ready rd numbers memory h) where
+module _ (rd : Reader) (memory : List ℕ) (h c : ℕ) where
   pub fresh_start : is_fresh (sequent rd memory h) c ≡ is_fresh (members_from rd memory h 0) c
   unfolding sequent members_from
   fresh_start = refl
 
-  pub key_of_member : (i : ℕ) → i < h → Normal rd (length numbers) (get_or memory i 0)
-  key_of_member i p = ready.keys.each i p
-
   module _ (i : ℕ) (inv : is_fresh (sequent rd memory h) c ≡ is_fresh (members_from rd memory h i) c) where
-    pub fresh_stop : i < h → (r : Bool) → r ≡ occurs c (decoded rd (get_or memory i 0)) → r ≡ true → false ≡ is_fresh (sequent rd memory h) c
-    fresh_stop lt r e q = rw (inv, members_next rd memory h (decoded rd 0) i (in_memory rd numbers memory h ready) lt, fresh_cons) (simp (← e, q))
+    module _ (lt : i < length (take h memory)) (r : Bool) (e : r ≡ occurs c (decoded rd (get_or (take h memory) i 0))) where
+      pub fresh_stop : r ≡ true → false ≡ is_fresh (sequent rd memory h) c
+      fresh_stop q = rw (inv, members_next rd memory h (decoded rd 0) i lt, fresh_cons) (simp (← e, q))
 
-    pub fresh_more : i < h → (r : Bool) → r ≡ occurs c (decoded rd (get_or memory i 0)) → r ≡ false → is_fresh (sequent rd memory h) c ≡ is_fresh (members_from rd memory h (i + 1)) c
-    fresh_more lt r e q = rw (inv, members_next rd memory h (decoded rd 0) i (in_memory rd numbers memory h ready) lt, fresh_cons) (simp (← e, q))
+      pub fresh_more : r ≡ false → is_fresh (sequent rd memory h) c ≡ is_fresh (members_from rd memory h (i + 1)) c
+      fresh_more q = rw (inv, members_next rd memory h (decoded rd 0) i lt, fresh_cons) (simp (← e, q))
 
-    pub fresh_end : h ≤ i → true ≡ is_fresh (sequent rd memory h) c
+    pub fresh_end : length (take h memory) ≤ i → true ≡ is_fresh (sequent rd memory h) c
     unfolding is_fresh every members_from
-    fresh_end end = rw (inv, drop_of_length-le (take h memory) {i = i} (omega (arith, length-take-le h memory (in_memory rd numbers memory h ready))))
+    fresh_end end = rw (inv, drop_of_length-le (take h memory) {i = i} end)

@@ -43,41 +43,43 @@ module _ (rd : Reader) (memory : List ℕ) (h : ℕ) (t : Tree) where
   unfolding sequent members_from
   member_start = refl
 
-  module _ (i : ℕ) (le : h ≤ length memory) where
-    pub members_next : i < h → members_from rd memory h i ≡ decoded rd (get_or memory i 0) ∷ members_from rd memory h (i + 1)
+  module _ (i : ℕ) where
+    pub members_next : i < length (take h memory) → members_from rd memory h i ≡ decoded rd (get_or (take h memory) i 0) ∷ members_from rd memory h (i + 1)
     unfolding members_from
-    members_next lt = rw (add-one, drop-cons (take h memory) i 0 (omega (arith, length-take-le h memory le)), get_or-take h memory i 0 lt)
+    members_next lt = rw (add-one, drop-cons (take h memory) i 0 lt)
 
     module _ (inv : member t (sequent rd memory h) ≡ member t (members_from rd memory h i)) where
-      pub member_found : i < h → (r : Bool) → r ≡ same (decoded rd (get_or memory i 0)) t → r ≡ true → true ≡ member t (sequent rd memory h)
+      pub member_found : i < length (take h memory) → (r : Bool) → r ≡ same (decoded rd (get_or (take h memory) i 0)) t → r ≡ true →
+          true ≡ member t (sequent rd memory h)
       member_found lt r e q = rw (inv, members_next lt, member_cons) (simp (← e, q))
 
-      pub member_more : i < h → (r : Bool) → r ≡ same (decoded rd (get_or memory i 0)) t → r ≡ false →
+      pub member_more : i < length (take h memory) → (r : Bool) → r ≡ same (decoded rd (get_or (take h memory) i 0)) t → r ≡ false →
           member t (sequent rd memory h) ≡ member t (members_from rd memory h (i + 1))
       member_more lt r e q = rw (inv, members_next lt, member_cons) (simp (← e, q))
 
-      pub member_none : h ≤ i → false ≡ member t (sequent rd memory h)
+      pub member_none : length (take h memory) ≤ i → false ≡ member t (sequent rd memory h)
       unfolding member members_from
-      member_none end = rw (inv, drop_of_length-le (take h memory) {i = i} (omega (arith, length-take-le h memory le)))
+      member_none end = rw (inv, drop_of_length-le (take h memory) {i = i} end)
 
 -- a memory holds its members
 pub in_memory : (rd : Reader) (numbers memory : List ℕ) (h : ℕ) → Ready rd numbers memory h → h ≤ length memory
 in_memory rd numbers memory h ready = omega (arith, ready.long, ready.low)
 
--- no member was found
-pub ready_none : (rd : Reader) (numbers memory : List ℕ) (h i : ℕ) (t : Tree) → Ready rd numbers memory h → h ≤ i →
-    member t (sequent rd memory h) ≡ member t (members_from rd memory h i) → false ≡ member t (sequent rd memory h)
-ready_none rd numbers memory h i t ready end inv = member_none rd memory h t i (in_memory rd numbers memory h ready) inv end
+-- the first h numbers are keys
+pub each_taken : (rd : Reader) (numbers memory : List ℕ) (h i : ℕ) → Ready rd numbers memory h → i < length (take h memory) →
+    Normal rd (length numbers) (get_or (take h memory) i 0)
+each_taken rd numbers memory h i ready lt =
+    let low : i < h = omega (arith, lt, length-take-le h memory (in_memory rd numbers memory h ready)) in
+    rw (get_or-take h memory i 0 low) (ready.keys.each i low)
 
 -- a key compared
-module _ (rd : Reader) (numbers memory : List ℕ) (h key : ℕ) (ready : Ready rd numbers memory h) (normal : Normal rd (length numbers) key) where
-  compared : (i : ℕ) → i < h → eqb (get_or memory i 0) key ≡ same (decoded rd (get_or memory i 0)) (decoded rd key)
-  compared i lt = key_same rd (length numbers) (get_or memory i 0) key (ready.keys.each i lt) normal
+module _ (rd : Reader) (numbers memory : List ℕ) (h key : ℕ) (ready : Ready rd numbers memory h) (normal : Normal rd (length numbers) key)
+    (i : ℕ) (lt : i < length (take h memory)) (inv : member (decoded rd key) (sequent rd memory h) ≡ member (decoded rd key) (members_from rd memory h i)) where
+  compared : eqb (get_or (take h memory) i 0) key ≡ same (decoded rd (get_or (take h memory) i 0)) (decoded rd key)
+  compared = key_same rd (length numbers) (get_or (take h memory) i 0) key (each_taken rd numbers memory h i ready lt) normal
 
-  module _ (i : ℕ) (lt : i < h) (inv : member (decoded rd key) (sequent rd memory h) ≡ member (decoded rd key) (members_from rd memory h i)) where
-    pub key_found : get_or memory i 0 ≡ key → true ≡ member (decoded rd key) (sequent rd memory h)
-    key_found e = member_found rd memory h (decoded rd key) i (in_memory rd numbers memory h ready) inv lt _ (compared i lt) (eq-eqb (get_or memory i 0) key e)
+  pub key_found : get_or (take h memory) i 0 ≡ key → true ≡ member (decoded rd key) (sequent rd memory h)
+  key_found e = member_found rd memory h (decoded rd key) i inv lt _ compared (eq-eqb (get_or (take h memory) i 0) key e)
 
-    pub key_more : (get_or memory i 0 ≡ key → ⊥) →
-        member (decoded rd key) (sequent rd memory h) ≡ member (decoded rd key) (members_from rd memory h (i + 1))
-    key_more e = member_more rd memory h (decoded rd key) i (in_memory rd numbers memory h ready) inv lt _ (compared i lt) (ne_eqb (get_or memory i 0) key e)
+  pub key_more : (get_or (take h memory) i 0 ≡ key → ⊥) → member (decoded rd key) (sequent rd memory h) ≡ member (decoded rd key) (members_from rd memory h (i + 1))
+  key_more e = member_more rd memory h (decoded rd key) i inv lt _ compared (ne_eqb (get_or (take h memory) i 0) key e)

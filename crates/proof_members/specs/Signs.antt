@@ -1,5 +1,5 @@
 -- The signs ⊥ and ⊤ as members, which need not be any record.
-use Rattle.std.specs.Prelude.{ℕ, ◌+◌, ◌/◌, ◌%◌, ◌<◌, ◌≡◌, List, Bool, length, get_or}
+use Rattle.std.specs.Prelude.{ℕ, ◌+◌, ◌/◌, ◌%◌, ◌<◌, ◌≡◌, List, Bool, length, get_or, take}
 use Rattle.std.proofs.Math.Path.{refl, sym, ap}
 use Rattle.std.proofs.Common.{◌∙◌}
 use Rattle.std.proofs.Math.Bool.{true, false}
@@ -15,7 +15,7 @@ use Rattle.reader.specs.Members.{member}
 use Rattle.reader_chains.specs.Shapes.{kind_tree, false_tree, true_tree}
 use Rattle.proof_members.specs.Keys.{by_one, equation_of, left_of, body, decoded, Normal, body_equation, body_single, decoded_negation, decoded_plain}
 use Rattle.proof_members.specs.Makers.{kind_given}
-use Rattle.proof_members.specs.Sequents.{sequent, Ready, members_from, in_memory, member_found, member_more}
+use Rattle.proof_members.specs.Sequents.{sequent, Ready, members_from, each_taken, member_found, member_more}
 
 -- the sign of a kind without parts, or ¬ before it
 unfoldable pub sign : ℕ → ℕ → Tree
@@ -126,17 +126,17 @@ module _ (rd : Reader) (negation kind k : ℕ) where
   sign_kind h a e = simp (is_sign, both, eq-eqb (k % 4) negation h, ← e)
 
 -- The ways out of `holds_sign`.
-module _ (rd : Reader) (numbers memory : List ℕ) (h negation kind : ℕ) (ready : Ready rd numbers memory h) (s : Sign rd negation kind) where
-  module _ (i : ℕ) (lt : i < h) (inv : member (sign negation kind) (sequent rd memory h) ≡ member (sign negation kind) (members_from rd memory h i))
-      (r : Bool) (e : r ≡ is_sign rd negation kind (get_or memory i 0)) where
-    compared : r ≡ same (decoded rd (get_or memory i 0)) (sign negation kind)
-    compared = e ∙ sign_compared rd negation kind (length numbers) (get_or memory i 0) s (ready.keys.each i lt)
+module _ (rd : Reader) (numbers memory : List ℕ) (h negation kind : ℕ) (ready : Ready rd numbers memory h) (s : Sign rd negation kind) (i : ℕ)
+    (lt : i < length (take h memory)) (inv : member (sign negation kind) (sequent rd memory h) ≡ member (sign negation kind) (members_from rd memory h i))
+    (r : Bool) (e : r ≡ is_sign rd negation kind (get_or (take h memory) i 0)) where
+  compared : r ≡ same (decoded rd (get_or (take h memory) i 0)) (sign negation kind)
+  compared = e ∙ sign_compared rd negation kind (length numbers) (get_or (take h memory) i 0) s (each_taken rd numbers memory h i ready lt)
 
-    pub sign_found : r ≡ true → true ≡ member (sign negation kind) (sequent rd memory h)
-    sign_found q = member_found rd memory h (sign negation kind) i (in_memory rd numbers memory h ready) inv lt r compared q
+  pub sign_found : r ≡ true → true ≡ member (sign negation kind) (sequent rd memory h)
+  sign_found q = member_found rd memory h (sign negation kind) i inv lt r compared q
 
-    pub sign_more : r ≡ false → member (sign negation kind) (sequent rd memory h) ≡ member (sign negation kind) (members_from rd memory h (i + 1))
-    sign_more q = member_more rd memory h (sign negation kind) i (in_memory rd numbers memory h ready) inv lt r compared q
+  pub sign_more : r ≡ false → member (sign negation kind) (sequent rd memory h) ≡ member (sign negation kind) (members_from rd memory h (i + 1))
+  sign_more q = member_more rd memory h (sign negation kind) i inv lt r compared q
 
 -- the two signs that rules need
 pub false_held : (s : List Tree) (r : Bool) → r ≡ member (sign 0 14) s → r ≡ member ⊥ᵗ s

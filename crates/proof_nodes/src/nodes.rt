@@ -1,6 +1,8 @@
 // The refusal of a node at a sequent: 13 to 17, the lower number first.
+// A rule has no name but its number.
 ghost use Rattle.std.specs.Prelude.{◌≡◌, ◌<◌, ◌≤◌, length};
-ghost use Rattle.reader.specs.Words.{word};
+ghost use Rattle.reader.specs.Files.{words};
+ghost use Rattle.reader.specs.Refusals.{fault_of};
 ghost use Rattle.reader_equality.specs.Tables.{Zeros};
 ghost use Rattle.reader.specs.Tests.{every};
 ghost use Rattle.reader.specs.Trees.{tree, atom_of};
@@ -16,24 +18,22 @@ use proof_forms::{premises, shapes};
 use proof_fresh::fresh;
 use proof_references::{References, references_of};
 use proof_rows::needs;
-use reader::trees;
+use reader::{Fault, Files};
 use reader_chains::chains;
 
 // The atom of record i's tree: 0 for record 0.
-fn tree_atom(obligation: &[u8], second: &[u8], m: usize, i: usize) -> usize
-    ensures { result ≡ atom_of (tree (word obligation.now second.now m) i) }
+fn tree_atom(files: &Files, i: usize) -> usize
+    ensures { result ≡ atom_of (tree (words files.now) i) }
 {
     if i == 0 {
         return 0;
     }
-    trees::atom_at(obligation, second, m, i)
+    files.atom_at(i)
 }
 
 // Is the constant of rule k's parts fresh, where the rule has one? The parts are in chain c. The table is scratch, zeros before and zeros again.
 fn constant_fresh(
-    obligation: &[u8],
-    second: &[u8],
-    m: usize,
+    files: &Files,
     numbers: &[usize],
     memory: &[usize],
     scratch: &mut [usize],
@@ -41,15 +41,15 @@ fn constant_fresh(
     k: usize,
     c: usize,
 ) -> bool
-    requires { At (word obligation.now second.now m) numbers.now memory.now scratch.old h c }
-    ensures { (result ≡ every (is_fresh (sequent (word obligation.now second.now m) memory.now h)) (row k (item_trees (word obligation.now second.now m) c)).fresh) × Zeros scratch.new }
+    requires { At (words files.now) numbers.now memory.now scratch.old h c }
+    ensures { (result ≡ every (is_fresh (sequent (words files.now) memory.now h)) (row k (item_trees (words files.now) c)).fresh) × Zeros scratch.new }
 {
     if k != 43 {
         return true;
     }
-    let part = chains::item_at(obligation, second, m, c, 1);
-    let constant = tree_atom(obligation, second, m, part);
-    fresh::is_fresh(obligation, second, m, numbers, memory, scratch, h, constant)
+    let part = chains::item_at(files, c, 1);
+    let constant = tree_atom(files, part);
+    fresh::is_fresh(files, numbers, memory, scratch, h, constant)
 }
 
 // How many members a premise of rule k adds at most.
@@ -79,39 +79,33 @@ fn has_room(h: usize, k: usize) -> bool
     h + most_added(k) <= 1024
 }
 
-// Refusals 13 and 14 of a node, 0 for none.
+// Refusals 13 and 14 of a node.
 fn form_fault(
-    obligation: &[u8],
-    second: &[u8],
-    m: usize,
+    files: &Files,
     numbers: &[usize],
     memory: &[usize],
     h: usize,
     node: References,
-) -> usize
-    requires { Ready (word obligation.now second.now m) numbers.now memory.now h × (node.first < length numbers.now) }
-    ensures { result ≡ form_fault (word obligation.now second.now m) (sequent (word obligation.now second.now m) memory.now h) node }
+) -> Result<(), Fault>
+    requires { Ready (words files.now) numbers.now memory.now h × (node.first < length numbers.now) }
+    ensures { fault_of result ≡ form_fault (words files.now) (sequent (words files.now) memory.now h) node }
 {
     let byte = proof_bytes::proof_byte(node.kind);
-    if !shapes::shapes_fit(obligation, second, m, node.first, node.kind, byte) {
-        return 13;
+    if !shapes::shapes_fit(files, node.first, node.kind, byte) {
+        return Err(Fault::Form);
     }
-    if !premises::premises_fit(obligation, second, m, node.second, byte) {
-        return 13;
+    if !premises::premises_fit(files, node.second, byte) {
+        return Err(Fault::Form);
     }
-    if !needs::needs_hold(
-        obligation, second, m, numbers, memory, h, node.kind, node.first,
-    ) {
-        return 14;
+    if !needs::needs_hold(files, numbers, memory, h, node.kind, node.first) {
+        return Err(Fault::Member);
     }
-    0
+    Ok(())
 }
 
-// Refusals 15 to 17 of a node, 0 for none. The table is scratch, zeros before and zeros again.
+// Refusals 15 to 17 of a node. The table is scratch, zeros before and zeros again.
 fn fit_fault(
-    obligation: &[u8],
-    second: &[u8],
-    m: usize,
+    files: &Files,
     numbers: &[usize],
     reaches: &[usize],
     memory: &[usize],
@@ -119,43 +113,38 @@ fn fit_fault(
     h: usize,
     k: usize,
     c: usize,
-) -> usize
-    requires { At (word obligation.now second.now m) numbers.now memory.now scratch.old h c × Reached (word obligation.now second.now m) reaches.now (length reaches.now) }
-    ensures { (result ≡ fit_fault (word obligation.now second.now m) (sequent (word obligation.now second.now m) memory.now h) k c) × Zeros scratch.new }
+) -> Result<(), Fault>
+    requires { At (words files.now) numbers.now memory.now scratch.old h c × Reached (words files.now) reaches.now (length reaches.now) }
+    ensures { (fault_of result ≡ fit_fault (words files.now) (sequent (words files.now) memory.now h) k c) × Zeros scratch.new }
 {
-    if !proof_fits::fits(obligation, second, m, numbers, reaches, scratch, k, c) {
-        return 15;
+    if !proof_fits::fits(files, numbers, reaches, scratch, k, c) {
+        return Err(Fault::Fit);
     }
-    if !constant_fresh(obligation, second, m, numbers, memory, scratch, h, k, c) {
-        return 16;
+    if !constant_fresh(files, numbers, memory, scratch, h, k, c) {
+        return Err(Fault::Fresh);
     }
     if !has_room(h, k) {
-        return 17;
+        return Err(Fault::Room);
     }
-    0
+    Ok(())
 }
 
-// The refusal of node n at the sequent of h members, 0 for none. The table is scratch, zeros before and zeros again.
+// The refusal of node n at the sequent of h members. The table is scratch, zeros before and zeros again.
 pub fn node_fault(
-    obligation: &[u8],
-    second: &[u8],
-    m: usize,
+    files: &Files,
     numbers: &[usize],
     reaches: &[usize],
     memory: &[usize],
     scratch: &mut [usize],
     h: usize,
     n: usize,
-) -> usize
-    requires { At (word obligation.now second.now m) numbers.now memory.now scratch.old h n × Reached (word obligation.now second.now m) reaches.now (length reaches.now) }
-    ensures { (result ≡ node_fault (word obligation.now second.now m) (sequent (word obligation.now second.now m) memory.now h) n) × Zeros scratch.new }
+) -> Result<(), Fault>
+    requires { At (words files.now) numbers.now memory.now scratch.old h n × Reached (words files.now) reaches.now (length reaches.now) }
+    ensures { (fault_of result ≡ node_fault (words files.now) (sequent (words files.now) memory.now h) n) × Zeros scratch.new }
 {
-    let node = references_of(obligation, second, m, n);
-    let why = form_fault(obligation, second, m, numbers, memory, h, node);
-    if why != 0 {
-        return why;
-    }
+    let node = references_of(files, n);
+    form_fault(files, numbers, memory, h, node)?;
     fit_fault(
-        obligation, second, m, numbers, reaches, memory, scratch, h, node.kind, node.first,
+        files, numbers, reaches, memory, scratch, h, node.kind, node.first,
     )
 }

@@ -3,7 +3,7 @@
 #![tactic(auto)]
 
 ghost use Rattle.std.specs.Prelude.{◌≡◌, ◌+◌, ◌<◌, ◌≤◌, length};
-ghost use Rattle.reader.specs.Words.{word};
+ghost use Rattle.reader.specs.Files.{words};
 ghost use Rattle.reader.specs.Trees.{tree};
 ghost use Rattle.reader.specs.Variables.{bears};
 ghost use Rattle.reader_closedness.specs.Reaches.{Reached};
@@ -13,16 +13,14 @@ ghost use Rattle.proof_places.specs.Borne.{Borne};
 ghost use Rattle.proof_places.specs.Places.{bears_at, bears_child};
 
 use proof_replacement::{deeper_at, is_index, reach_of};
-use reader::trees;
+use reader::Files;
 use reader_comparison::numbers;
 use reader_equality::tables;
 
 // Does every occurrence of index d in what word w of record i refers to bear type t?
 #[cycle(bears_at_bears_child_bears_open)]
 fn bears_child(
-    obligation: &[u8],
-    second: &[u8],
-    m: usize,
+    files: &Files,
     numbers: &[usize],
     reaches: &[usize],
     seen: &mut [usize],
@@ -31,19 +29,17 @@ fn bears_child(
     d: usize,
     w: u8,
 ) -> bool
-    requires { (0 < i) × (d + i ≤ 18446744073709551616) × Numbered (word obligation.now second.now m) numbers.now (length numbers.now) × Reached (word obligation.now second.now m) reaches.now (length reaches.now) × Borne (word obligation.now second.now m) t seen.old }
-    ensures { (result ≡ bears_child (word obligation.now second.now m) i t d w) × Borne (word obligation.now second.now m) t seen.new }
+    requires { (0 < i) × (d + i ≤ 18446744073709551616) × Numbered (words files.now) numbers.now (length numbers.now) × Reached (words files.now) reaches.now (length reaches.now) × Borne (words files.now) t seen.old }
+    ensures { (result ≡ bears_child (words files.now) i t d w) × Borne (words files.now) t seen.new }
 {
-    let x = trees::child_at(obligation, second, m, i, w);
-    bears_at(obligation, second, m, numbers, reaches, seen, x, t, d)
+    let x = files.child_at(i, w);
+    bears_at(files, numbers, reaches, seen, x, t, d)
 }
 
 // The same for a record i that is not 0, whatever is remembered of it.
 #[cycle(bears_at_bears_child_bears_open)]
 fn bears_open(
-    obligation: &[u8],
-    second: &[u8],
-    m: usize,
+    files: &Files,
     numbers: &[usize],
     reaches: &[usize],
     seen: &mut [usize],
@@ -51,29 +47,27 @@ fn bears_open(
     t: usize,
     d: usize,
 ) -> bool
-    requires { (0 < i) × (d + i < 18446744073709551616) × Numbered (word obligation.now second.now m) numbers.now (length numbers.now) × Reached (word obligation.now second.now m) reaches.now (length reaches.now) × Borne (word obligation.now second.now m) t seen.old }
-    ensures { (result ≡ bears_at (word obligation.now second.now m) i t d) × Borne (word obligation.now second.now m) t seen.new }
+    requires { (0 < i) × (d + i < 18446744073709551616) × Numbered (words files.now) numbers.now (length numbers.now) × Reached (words files.now) reaches.now (length reaches.now) × Borne (words files.now) t seen.old }
+    ensures { (result ≡ bears_at (words files.now) i t d) × Borne (words files.now) t seen.new }
 {
-    if is_index(obligation, second, m, i, d) {
-        let u = trees::child_at(obligation, second, m, i, 2);
-        return numbers::same_at(obligation, second, m, numbers, u, t);
+    if is_index(files, i, d) {
+        let u = files.child_at(i, 2);
+        return numbers::same_at(files, numbers, u, t);
     }
-    if !bears_child(obligation, second, m, numbers, reaches, seen, i, t, d, 1) {
+    if !bears_child(files, numbers, reaches, seen, i, t, d, 1) {
         return false;
     }
-    let e = deeper_at(obligation, second, m, i, d);
-    if !bears_child(obligation, second, m, numbers, reaches, seen, i, t, e, 2) {
+    let e = deeper_at(files, i, d);
+    if !bears_child(files, numbers, reaches, seen, i, t, e, 2) {
         return false;
     }
-    bears_child(obligation, second, m, numbers, reaches, seen, i, t, d, 3)
+    bears_child(files, numbers, reaches, seen, i, t, d, 3)
 }
 
 // Does every occurrence of index d in record i bear type t?
 #[cycle(bears_at_bears_child_bears_open)]
 fn bears_at(
-    obligation: &[u8],
-    second: &[u8],
-    m: usize,
+    files: &Files,
     numbers: &[usize],
     reaches: &[usize],
     seen: &mut [usize],
@@ -81,20 +75,20 @@ fn bears_at(
     t: usize,
     d: usize,
 ) -> bool
-    requires { (d + i < 18446744073709551616) × Numbered (word obligation.now second.now m) numbers.now (length numbers.now) × Reached (word obligation.now second.now m) reaches.now (length reaches.now) × Borne (word obligation.now second.now m) t seen.old }
-    ensures { (result ≡ bears_at (word obligation.now second.now m) i t d) × Borne (word obligation.now second.now m) t seen.new }
+    requires { (d + i < 18446744073709551616) × Numbered (words files.now) numbers.now (length numbers.now) × Reached (words files.now) reaches.now (length reaches.now) × Borne (words files.now) t seen.old }
+    ensures { (result ≡ bears_at (words files.now) i t d) × Borne (words files.now) t seen.new }
 {
-    let r = reach_of(obligation, second, m, reaches, i);
+    let r = reach_of(files, reaches, i);
     if r <= d {
         return true;
     }
     if r - 1 != d {
-        return bears_open(obligation, second, m, numbers, reaches, seen, i, t, d);
+        return bears_open(files, numbers, reaches, seen, i, t, d);
     }
     if tables::entry_at(seen, i) != 0 {
         return true;
     }
-    if !bears_open(obligation, second, m, numbers, reaches, seen, i, t, d) {
+    if !bears_open(files, numbers, reaches, seen, i, t, d) {
         return false;
     }
     tables::store(seen, i, 1);
@@ -103,23 +97,21 @@ fn bears_at(
 
 // Does every occurrence of index 0 in record i bear type t? The table is scratch, zeros before and zeros again.
 pub fn bears(
-    obligation: &[u8],
-    second: &[u8],
-    m: usize,
+    files: &Files,
     numbers: &[usize],
     reaches: &[usize],
     seen: &mut [usize],
     i: usize,
     t: usize,
 ) -> bool
-    requires { Numbered (word obligation.now second.now m) numbers.now (length numbers.now) × Reached (word obligation.now second.now m) reaches.now (length reaches.now) × Zeros seen.old }
-    ensures { (result ≡ bears 0 (tree (word obligation.now second.now m) t) (tree (word obligation.now second.now m) i)) × Zeros seen.new }
+    requires { Numbered (words files.now) numbers.now (length numbers.now) × Reached (words files.now) reaches.now (length reaches.now) × Zeros seen.old }
+    ensures { (result ≡ bears 0 (tree (words files.now) t) (tree (words files.now) i)) × Zeros seen.new }
 {
     // A record without an index leaves the table as it is, and there is nothing to clear.
-    if reach_of(obligation, second, m, reaches, i) == 0 {
+    if reach_of(files, reaches, i) == 0 {
         return true;
     }
-    let r = bears_at(obligation, second, m, numbers, reaches, seen, i, t, 0);
-    tables::clear(seen);
+    let r = bears_at(files, numbers, reaches, seen, i, t, 0);
+    seen.fill(0);
     r
 }

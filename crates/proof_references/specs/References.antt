@@ -5,8 +5,8 @@ use Rattle.reader.specs.Words.{Reader}
 use Rattle.reader.specs.Tests.{if_lt}
 use Rattle.reader.specs.Trees.{lower}
 use Rattle.reader.specs.TreeLaws.{lower_below}
-use Rattle.reader_view.specs.declared.Record.{Record}
-use Rattle.reader_view.specs.Records.{RecordIs}
+use Rattle.reader.specs.declared.Record.{Record}
+use Rattle.reader.specs.Fetched.{RecordIs}
 use Rattle.proof_references.specs.declared.References.{References}
 
 -- r has the kind of record i and the smaller records that its words refer to

@@ -2,11 +2,11 @@
 #![tactic(auto)]
 
 ghost use Rattle.std.specs.Prelude.{◌≡◌};
-ghost use Rattle.reader.specs.Words.{word};
+ghost use Rattle.reader.specs.Files.{words};
 ghost use Rattle.reader.specs.Tests.{if_lt};
 ghost use Rattle.proof_references.specs.References.{ReferencesAre};
 
-use reader_view::views;
+use reader::Files;
 
 // The kind of a record and the smaller records that its words 1 to 3 refer to, 0 where a word is no such reference.
 #[derive(Clone, Copy)]
@@ -25,10 +25,10 @@ fn lower_in(i: usize, a: usize) -> usize
 }
 
 // Record i.
-pub fn references_of(obligation: &[u8], second: &[u8], m: usize, i: usize) -> References
-    ensures { ReferencesAre (word obligation.now second.now m) i result }
+pub fn references_of(files: &Files, i: usize) -> References
+    ensures { ReferencesAre (words files.now) i result }
 {
-    let v = views::record_of(obligation, second, m, i);
+    let v = files.record_at(i);
     References {
         kind: v.kind,
         first: lower_in(i, v.a),

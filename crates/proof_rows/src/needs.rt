@@ -1,6 +1,6 @@
 // Refusal 14: what must be in the sequent.
 ghost use Rattle.std.specs.Prelude.{◌≡◌, ◌<◌, length};
-ghost use Rattle.reader.specs.Words.{word};
+ghost use Rattle.reader.specs.Files.{words};
 ghost use Rattle.reader.specs.Chains.{item_trees};
 ghost use Rattle.reader.specs.Members.{member};
 ghost use Rattle.proof_members.specs.Sequents.{sequent, Ready};
@@ -9,44 +9,41 @@ ghost use Rattle.proof_rows.specs.Tables.{needs_hold};
 
 use crate::{forms, tables};
 use proof_members::search;
+use reader::Files;
 
 // Is what the form says of the parts in chain c a member?
 fn form_holds(
-    obligation: &[u8],
-    second: &[u8],
-    m: usize,
+    files: &Files,
     numbers: &[usize],
     memory: &[usize],
     h: usize,
     c: usize,
     form: u8,
 ) -> bool
-    requires { Ready (word obligation.now second.now m) numbers.now memory.now h × (c < length numbers.now) }
-    ensures { result ≡ member (need_tree (item_trees (word obligation.now second.now m) c) form) (sequent (word obligation.now second.now m) memory.now h) }
+    requires { Ready (words files.now) numbers.now memory.now h × (c < length numbers.now) }
+    ensures { result ≡ member (need_tree (item_trees (words files.now) c) form) (sequent (words files.now) memory.now h) }
 {
     if form == 1 {
-        return search::holds_false(obligation, second, m, numbers, memory, h);
+        return search::holds_false(files, numbers, memory, h);
     }
     if form == 2 {
-        return search::holds_not_true(obligation, second, m, numbers, memory, h);
+        return search::holds_not_true(files, numbers, memory, h);
     }
-    let key = forms::form_key(obligation, second, m, numbers, c, form);
-    search::holds(obligation, second, m, numbers, memory, h, key)
+    let key = forms::form_key(files, numbers, c, form);
+    search::holds(files, numbers, memory, h, key)
 }
 
 // Are all members there that rule k needs, with the parts in chain c?
 pub fn needs_hold(
-    obligation: &[u8],
-    second: &[u8],
-    m: usize,
+    files: &Files,
     numbers: &[usize],
     memory: &[usize],
     h: usize,
     k: usize,
     c: usize,
 ) -> bool
-    requires { Ready (word obligation.now second.now m) numbers.now memory.now h × (c < length numbers.now) }
-    ensures { result ≡ needs_hold (sequent (word obligation.now second.now m) memory.now h) k (item_trees (word obligation.now second.now m) c) }
+    requires { Ready (words files.now) numbers.now memory.now h × (c < length numbers.now) }
+    ensures { result ≡ needs_hold (sequent (words files.now) memory.now h) k (item_trees (words files.now) c) }
 {
     let row = tables::need_row(k);
     let first = tables::half(row, 0);
@@ -54,11 +51,11 @@ pub fn needs_hold(
     if first == 0 {
         return true;
     }
-    if !form_holds(obligation, second, m, numbers, memory, h, c, first) {
+    if !form_holds(files, numbers, memory, h, c, first) {
         return false;
     }
     if last == 0 {
         return true;
     }
-    form_holds(obligation, second, m, numbers, memory, h, c, last)
+    form_holds(files, numbers, memory, h, c, last)
 }

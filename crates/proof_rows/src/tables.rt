@@ -1,4 +1,5 @@
 // The forms of what each rule needs and adds. Each table is a `match`, as the compiler would write a `const` array to the stack at each use.
+// A rule has no name but its number.
 ghost use Rattle.std.specs.Prelude.{◌≡◌};
 ghost use Rattle.proof_rows.specs.Tables.{half, pair_in, need_forms, adds_in, add_forms, add_pair};
 

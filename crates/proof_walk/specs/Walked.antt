@@ -1,10 +1,13 @@
 -- The walk over a proof's nodes, and the ways out of the code that makes it.
-use Rattle.std.specs.Prelude.{ℕ, zero, suc, ◌+◌, ◌*◌, ◌<◌, ◌≤◌, ◌≡◌, refl, List, [], ◌∷◌, true, leb, take, get_or}
+use Rattle.std.specs.Prelude.{ℕ, zero, suc, ◌+◌, ◌*◌, ◌<◌, ◌≤◌, ◌≡◌, refl, List, [], ◌∷◌, true, leb, take, get_or, Err}
 use Rattle.std.proofs.Math.Path.{sym, ap}
 use Rattle.std.proofs.Common.{◌∙◌, take-take, leb-true}
 use Rattle.std.proofs.Math.ListN.{length}
 use native.Mathlib.Omega.{arith}
 use Rattle.reader.specs.declared.Answer.{Answer}
+use Rattle.reader.specs.declared.Refusal.{Refusal}
+use Rattle.reader.specs.Refusals.{answer_of}
+use Rattle.reader.specs.RefusalLaws.{number_some}
 use Rattle.reader.specs.Words.{Reader}
 use Rattle.reader.specs.Tests.{every}
 use Rattle.reader.specs.Kinds.{is_rule}
@@ -43,17 +46,17 @@ module _ (rd : Reader) (n : ℕ) (s : List Tree) (count : ℕ) where
   unfolding visit
   visit_none h = rw h (sym (node_zero rd (node_fault rd) (premise_sequent rd) s count))
 
-  module _ (pos : n ≡ 0 → ⊥) (why : ℕ) (ew : why ≡ node_fault rd s n) where
-    pub visit_stop : (why ≡ 0 → ⊥) → answer why 2 n (count + 1) ≡ visit rd n s count
+  module _ (pos : n ≡ 0 → ⊥) where
+    pub visit_stop : (why : ℕ) → why ≡ node_fault rd s n → (why ≡ 0 → ⊥) → answer why 2 n (count + 1) ≡ visit rd n s count
     unfolding visit
-    visit_stop h =
+    visit_stop why ew h =
         rw ew (sym (node_stop rd (node_fault rd) (premise_sequent rd) n s count (omega arith) (λ z. h (ew ∙ z))))
 
-    pub visit_go : why ≡ 0 → (c : ℕ) (r : Answer) → c ≡ lower rd n 2 → r ≡ follow rd c n 0 s (count + 1) → r ≡ visit rd n s count
+    pub visit_go : 0 ≡ node_fault rd s n → (c : ℕ) (r : Answer) → c ≡ lower rd n 2 → r ≡ follow rd c n 0 s (count + 1) → r ≡ visit rd n s count
     unfolding visit follow
     visit_go h c r ec e =
         e ∙ ap (λ (x : ℕ). walk_links rd (node_fault rd) (premise_sequent rd) x n 0 s (count + 1)) ec
-        ∙ sym (node_go rd (node_fault rd) (premise_sequent rd) n s count (omega arith) (sym ew ∙ h))
+        ∙ sym (node_go rd (node_fault rd) (premise_sequent rd) n s count (omega arith) (sym h))
 
 -- The ways out of `walk_links`.
 module _ (rd : Reader) (c n b : ℕ) (s : List Tree) (count : ℕ) where
@@ -61,22 +64,27 @@ module _ (rd : Reader) (c n b : ℕ) (s : List Tree) (count : ℕ) where
   unfolding follow
   follow_none h = rw h (sym (link_zero rd (node_fault rd) (premise_sequent rd) n b s count))
 
-  module _ (pos : c ≡ 0 → ⊥) (x : ℕ) (ex : x ≡ lower rd c 1) (a : Answer) (ea : a ≡ visit rd x (premise_sequent rd s n b) count) where
-    first_is : a ≡ walk_node rd (node_fault rd) (premise_sequent rd) (lower rd c 1) (premise_sequent rd s n b) count
+  module _ (pos : c ≡ 0 → ⊥) (x : ℕ) (ex : x ≡ lower rd c 1) where
+    first_is : (a : Answer) → a ≡ visit rd x (premise_sequent rd s n b) count →
+        a ≡ walk_node rd (node_fault rd) (premise_sequent rd) (lower rd c 1) (premise_sequent rd s n b) count
     unfolding visit
-    first_is = ea ∙ ap (λ (y : ℕ). walk_node rd (node_fault rd) (premise_sequent rd) y (premise_sequent rd s n b) count) ex
+    first_is a e = e ∙ ap (λ (y : ℕ). walk_node rd (node_fault rd) (premise_sequent rd) y (premise_sequent rd s n b) count) ex
 
-    pub follow_stop : (a.refusal ≡ 0 → ⊥) → a ≡ follow rd c n b s count
+    pub follow_stop : (f : Refusal) → answer_of (Err f) ≡ visit rd x (premise_sequent rd s n b) count → answer_of (Err f) ≡ follow rd c n b s count
     unfolding follow
-    follow_stop h =
-        first_is ∙ sym (link_stop rd (node_fault rd) (premise_sequent rd) n b s count c (omega arith) (λ z. h (ap (λ (y : Answer). y.refusal) first_is ∙ z)))
+    follow_stop f e =
+        let first = first_is (answer_of (Err f)) e in
+        first
+        ∙ sym (link_stop rd (node_fault rd) (premise_sequent rd) n b s count c (omega arith) (λ z. number_some f.fault (ap (λ (y : Answer). y.refusal) first ∙ z)))
 
-    pub follow_go : a.refusal ≡ 0 → (rest : ℕ) (r : Answer) → rest ≡ lower rd c 3 → r ≡ follow rd rest n (b + 1) s a.nodes → r ≡ follow rd c n b s count
+    pub follow_go : (entered : ℕ) → accepted entered ≡ visit rd x (premise_sequent rd s n b) count → (rest : ℕ) (r : Answer) → rest ≡ lower rd c 3 →
+        r ≡ follow rd rest n (b + 1) s entered → r ≡ follow rd c n b s count
     unfolding follow
-    follow_go h rest r er e =
-        e ∙ ap (λ (y : ℕ). walk_links rd (node_fault rd) (premise_sequent rd) y n (b + 1) s a.nodes) er
-        ∙ ap (λ (y : Answer). walk_links rd (node_fault rd) (premise_sequent rd) (lower rd c 3) n (b + 1) s y.nodes) first_is
-        ∙ sym (link_go rd (node_fault rd) (premise_sequent rd) n b s count c (omega arith) (ap (λ (y : Answer). y.refusal) (sym first_is) ∙ h))
+    follow_go entered ea rest r er e =
+        let first = first_is (accepted entered) ea in
+        e ∙ ap (λ (y : ℕ). walk_links rd (node_fault rd) (premise_sequent rd) y n (b + 1) s entered) er
+        ∙ ap (λ (y : Answer). walk_links rd (node_fault rd) (premise_sequent rd) (lower rd c 3) n (b + 1) s y.nodes) first
+        ∙ sym (link_go rd (node_fault rd) (premise_sequent rd) n b s count c (omega arith) (ap (λ (y : Answer). y.refusal) (sym first)))
 
 -- what a node gives that passes its tests: its premises are rule nodes, and each has room
 record Passed (rd : Reader) (s : List Tree) (n : ℕ) : Type 0 where
@@ -98,9 +106,9 @@ rules : (rd : Reader) (s : List Tree) (n : ℕ) → node_fault rd s n ≡ 0 → 
 unfolding premises_fit
 rules rd s n h = (both_parts _ _ (passed rd s n h).fits).1
 
-pub premises_nodes : (rd : Reader) (s : List Tree) (n why c : ℕ) → why ≡ node_fault rd s n → why ≡ 0 → c ≡ lower rd n 2 → AreNodes rd c
+pub premises_nodes : (rd : Reader) (s : List Tree) (n c : ℕ) → 0 ≡ node_fault rd s n → c ≡ lower rd n 2 → AreNodes rd c
 unfolding AreNodes premises
-premises_nodes rd s n why c ew h ec = rw ec (rules rd s n (sym ew ∙ h))
+premises_nodes rd s n c h ec = rw ec (rules rd s n (sym h))
 
 -- a test of every element, at one place or past the end
 every_place : (s : List Tree) (l : List (List Tree)) (b : ℕ) → length s ≤ 1024 → every (λ added. leb (length s + length added) 1024) l ≡ true →
@@ -171,11 +179,11 @@ module _ (rd : Reader) (c : ℕ) (pos : c ≡ 0 → ⊥) (all : AreNodes rd c) w
     pub item_count : count + under 1 rd x ≤ 4294967296
     item_count = omega (arith, split)
 
-    pub rest_count : (t : List Tree) (a : Answer) → a ≡ visit rd x t count → a.nodes + under_links 1 rd y ≤ 4294967296
+    pub rest_count : (t : List Tree) (entered : ℕ) → accepted entered ≡ visit rd x t count → entered + under_links 1 rd y ≤ 4294967296
     unfolding visit
-    rest_count t a ea =
+    rest_count t entered ea =
         let most = node_count 1 rd (node_fault rd) (premise_sequent rd) (rules rd) x t count (item_node x ex) in
-        let same : a.nodes ≡ (walk_node rd (node_fault rd) (premise_sequent rd) x t count).nodes = ap (λ (z : Answer). z.nodes) ea in
+        let same : entered ≡ (walk_node rd (node_fault rd) (premise_sequent rd) x t count).nodes = ap (λ (z : Answer). z.nodes) ea in
         omega (arith, split)
 
 -- the count at the chain of premises
@@ -211,31 +219,28 @@ module _ (rd : Reader) (numbers memory scratch : List ℕ) (h i : ℕ) (here : A
   at_few : i ≤ 4096
   at_few = omega (arith, here.within, here.ready.table.small)
 
-pub fault_none : (rd : Reader) (s : List Tree) (n why : ℕ) → why ≡ node_fault rd s n → why ≡ 0 → node_fault rd s n ≡ 0
-fault_none rd s n why e h = sym e ∙ h
-
 pub fault_kept : (rd : Reader) (memory after : List ℕ) (h n : ℕ) → take h after ≡ take h memory → node_fault rd (sequent rd memory h) n ≡ 0 →
     node_fault rd (sequent rd after h) n ≡ 0
 fault_kept rd memory after h n kept e = rw (sequent_kept rd memory after h kept) e
 
 -- the walk goes on after a premise
-pub links_go : (rd : Reader) (memory after : List ℕ) (h c n b count x rest : ℕ) (a r : Answer) → (c ≡ 0 → ⊥) → x ≡ lower rd c 1 → rest ≡ lower rd c 3 →
-    a ≡ visit rd x (premise_sequent rd (sequent rd memory h) n b) count → take h after ≡ take h memory → a.refusal ≡ 0 →
-    r ≡ follow rd rest n (b + 1) (sequent rd after h) a.nodes → r ≡ follow rd c n b (sequent rd memory h) count
-links_go rd memory after h c n b count x rest a r pos ex er ea kept z e =
-    follow_go rd c n b (sequent rd memory h) count pos x ex a ea z rest r er
-    (e ∙ ap (λ (s : List Tree). follow rd rest n (b + 1) s a.nodes) (sequent_kept rd memory after h kept))
+pub links_go : (rd : Reader) (memory after : List ℕ) (h c n b count x rest entered : ℕ) (r : Answer) → (c ≡ 0 → ⊥) → x ≡ lower rd c 1 → rest ≡ lower rd c 3 →
+    accepted entered ≡ visit rd x (premise_sequent rd (sequent rd memory h) n b) count → take h after ≡ take h memory →
+    r ≡ follow rd rest n (b + 1) (sequent rd after h) entered → r ≡ follow rd c n b (sequent rd memory h) count
+links_go rd memory after h c n b count x rest entered r pos ex er ea kept e =
+    follow_go rd c n b (sequent rd memory h) count pos x ex entered ea rest r er
+    (e ∙ ap (λ (s : List Tree). follow rd rest n (b + 1) s entered) (sequent_kept rd memory after h kept))
 
 -- the walk ends with a node that has no premises, and with a last premise
-pub visit_last : (rd : Reader) (n : ℕ) (s : List Tree) (count why c : ℕ) → (n ≡ 0 → ⊥) → why ≡ node_fault rd s n → why ≡ 0 → c ≡ lower rd n 2 → c ≡ 0 →
+pub visit_last : (rd : Reader) (n : ℕ) (s : List Tree) (count c : ℕ) → (n ≡ 0 → ⊥) → 0 ≡ node_fault rd s n → c ≡ lower rd n 2 → c ≡ 0 →
     accepted (count + 1) ≡ visit rd n s count
-visit_last rd n s count why c pos ew h ec none =
-    visit_go rd n s count pos why ew h c (accepted (count + 1)) ec (follow_none rd c n 0 s (count + 1) none)
+visit_last rd n s count c pos h ec none =
+    visit_go rd n s count pos h c (accepted (count + 1)) ec (follow_none rd c n 0 s (count + 1) none)
 
-pub links_last : (rd : Reader) (c n b : ℕ) (s : List Tree) (count x rest : ℕ) (a : Answer) → (c ≡ 0 → ⊥) → x ≡ lower rd c 1 → rest ≡ lower rd c 3 →
-    a ≡ visit rd x (premise_sequent rd s n b) count → a.refusal ≡ 0 → rest ≡ 0 → accepted a.nodes ≡ follow rd c n b s count
-links_last rd c n b s count x rest a pos ex er ea z none =
-    follow_go rd c n b s count pos x ex a ea z rest (accepted a.nodes) er (follow_none rd rest n (b + 1) s a.nodes none)
+pub links_last : (rd : Reader) (c n b : ℕ) (s : List Tree) (count x rest entered : ℕ) → (c ≡ 0 → ⊥) → x ≡ lower rd c 1 → rest ≡ lower rd c 3 →
+    accepted entered ≡ visit rd x (premise_sequent rd s n b) count → rest ≡ 0 → accepted entered ≡ follow rd c n b s count
+links_last rd c n b s count x rest entered pos ex er ea none =
+    follow_go rd c n b s count pos x ex entered ea rest (accepted entered) er (follow_none rd rest n (b + 1) s entered none)
 
 -- the numbers of premises and links stay small
 pub turn_few : (rd : Reader) (b c y : ℕ) → b + c ≤ 4294967296 → (c ≡ 0 → ⊥) → y ≡ lower rd c 3 → b + 1 + y ≤ 4294967296

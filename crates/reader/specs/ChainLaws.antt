@@ -1,8 +1,9 @@
 -- Laws of loops over a chain.
-use Rattle.std.specs.Prelude.{ℕ, suc, ◌-◌, ◌<◌, ◌≡◌, true, false, leb, length}
+use Rattle.std.specs.Prelude.{ℕ, zero, suc, ◌-◌, ◌<◌, ◌≡◌, refl, true, false, eqb, leb, length}
 use Rattle.std.proofs.Common.{sym, ap, ◌∙◌, arith, le-leb}
 use Rattle.std.proofs.Math.Dec.{leb-suc-suc}
 use Rattle.std.proofs.lemmas.Bool.{lt-leb}
+use borrow.Author.Tests.{ne_eqb}
 use Rattle.reader.specs.Words.{Reader}
 use Rattle.reader.specs.Trees.{lower}
 use Rattle.reader.specs.Chains.{linked}
@@ -22,6 +23,13 @@ module _ (rd : Reader) (c most left at : ℕ) (inv : leb (length (linked rd c)) 
 
   pub most_end : at ≡ 0 → true ≡ leb (length (linked rd c)) most
   most_end h = let none : length (linked rd at) ≡ 0 = rw h (linked_none rd) in sym (inv ∙ le-leb (length (linked rd at)) left (omega arith))
+
+  pub most_out : left ≡ 0 → eqb at 0 ≡ leb (length (linked rd c)) most
+  most_out h = go at refl
+    where
+      go : (x : ℕ) → at ≡ x → eqb x 0 ≡ leb (length (linked rd c)) most
+      go zero e = most_end e
+      go (suc x) e = ne_eqb (suc x) 0 (λ z. omega arith) ∙ most_stop (λ z. omega arith) h
 
   pub most_more : (at ≡ 0 → ⊥) → (left ≡ 0 → ⊥) → (next : ℕ) → next ≡ lower rd at 3 → leb (length (linked rd c)) most ≡ leb (length (linked rd next)) (left - 1)
   most_more p q next e =

@@ -1,4 +1,6 @@
 pub mod Words
+pub mod Files
+pub mod Fetched
 pub mod Tests
 pub mod Down
 pub mod Kinds
@@ -10,6 +12,7 @@ pub mod Names
 pub mod Variables
 pub mod Typing
 pub mod Answers
+pub mod Refusals
 pub mod Records
 pub mod Places
 pub mod Members
@@ -26,4 +29,6 @@ pub mod TreeLaws
 pub mod SameLaws
 pub mod ChainLaws
 pub mod AnswerLaws
+pub mod RefusalLaws
 pub mod WalkLaws
+pub mod Links

@@ -1,14 +1,86 @@
 // The table of records: classes of kinds, roles of words.
 ghost use Rattle.std.specs.Prelude.{◌≡◌};
-ghost use Rattle.reader.specs.Words.{word};
+ghost use Rattle.reader.specs.Files.{words};
 ghost use Rattle.reader.specs.KindLaws.{unpacked};
 ghost use Rattle.reader.specs.Kinds.{layout, class, role, kind_at, class_at, role_at, is_rule, is_kind, is_number, is_symbol};
 
+use crate::Files;
 use crate::tests::is_between;
-use crate::words;
+
+// The kinds of file. A function takes the number, `mode`, and no `Mode`, as it answers for any number.
+#[derive(Clone, Copy, PartialEq, Eq)]
+pub enum Mode {
+    Obligation,
+    Proof,
+    Derivation,
+}
+
+// The kinds of records, as the table numbers them.
+#[derive(Clone, Copy, PartialEq, Eq)]
+pub enum Kind {
+    Link = 1,
+    Name,
+    GivenType,
+    SetType,
+    PairType,
+    TypeVariable,
+    Constant,
+    Function,
+    BoundVariable,
+    Pair,
+    Product,
+    Powerset,
+    Application,
+    False,
+    True,
+    And,
+    Implies,
+    Not,
+    ForAll,
+    Equal,
+    Member,
+    ForAllTypes,
+    Choice,
+}
+
+// The classes of records.
+#[derive(Clone, Copy, PartialEq, Eq)]
+pub enum Class {
+    None,
+    Link,
+    Name,
+    Type,
+    Term,
+    Formula,
+    Function,
+    ForAllTypes,
+}
+
+// The roles of words: nothing, numbers, references that are no part of the record's tree, and, from `Item` on, references to its parts.
+#[derive(Clone, Copy, PartialEq, Eq)]
+pub enum Role {
+    Nothing,
+    Bytes,
+    To3,
+    To4,
+    To63,
+    From1To4,
+    Name,
+    NextName,
+    NodeChain,
+    Signature,
+    Item,
+    NextLink,
+    Type,
+    Term,
+    Formula,
+    Function,
+    Types,
+    Arguments,
+}
 
 // The row of kind k, two hexadecimal digits each for its class and the roles of its words 1 to 3. A `match`, as the compiler would write a `const` array to the
-// stack at each use. Where several of a record's columns are wanted, its row is looked up once.
+// stack at each use. Where several of a record's columns are wanted, its row is looked up once. No plainer with `Kind`: a `match` takes it only from a function that lists all its numbers again.
 pub fn row_of(k: usize) -> u32
     ensures { unpacked result ≡ layout k }
 {
@@ -95,10 +167,10 @@ pub fn role_of(k: usize, w: u8) -> u8
 pub fn is_rule(mode: u8, k: usize) -> bool
     ensures { result ≡ is_rule mode k }
 {
-    if mode == 1 {
+    if mode == Mode::Proof as u8 {
         return is_between(32, 46, k);
     }
-    if mode == 2 {
+    if mode == Mode::Derivation as u8 {
         return is_between(64, 80, k);
     }
     false
@@ -118,42 +190,44 @@ pub fn is_kind(mode: u8, k: usize) -> bool
 pub fn is_symbol(k: usize) -> bool
     ensures { result ≡ is_symbol k }
 {
-    if k == 3 {
+    if k == Kind::GivenType as usize {
         return true;
     }
-    if k == 7 {
+    if k == Kind::Constant as usize {
         return true;
     }
-    k == 8
+    k == Kind::Function as usize
 }
 
 // Is r the role of a number?
 pub fn is_number(r: u8) -> bool
     ensures { result ≡ is_number r }
 {
-    if r < 2 {
+    if r < Role::To3 as u8 {
         return false;
     }
-    r < 6
+    r < Role::Name as u8
 }
 
-// The kind of record i.
-pub fn kind_at(obligation: &[u8], second: &[u8], m: usize, i: usize) -> usize
-    ensures { result ≡ kind_at (word obligation.now second.now m) i }
-{
-    words::word_at(obligation, second, m, i, 0)
-}
+impl Files<'_> {
+    // The kind of record i.
+    pub fn kind_at(&self, i: usize) -> usize
+        ensures { result ≡ kind_at (words self.now) i }
+    {
+        self.word_at(i, 0)
+    }
 
-// The class of record i.
-pub fn class_at(obligation: &[u8], second: &[u8], m: usize, i: usize) -> u8
-    ensures { result ≡ class_at (word obligation.now second.now m) i }
-{
-    class_of(kind_at(obligation, second, m, i))
-}
+    // The class of record i.
+    pub fn class_at(&self, i: usize) -> u8
+        ensures { result ≡ class_at (words self.now) i }
+    {
+        class_of(self.kind_at(i))
+    }
 
-// The role of word w of record i.
-pub fn role_at(obligation: &[u8], second: &[u8], m: usize, i: usize, w: u8) -> u8
-    ensures { result ≡ role_at (word obligation.now second.now m) i w }
-{
-    role_of(kind_at(obligation, second, m, i), w)
+    // The role of word w of record i.
+    pub fn role_at(&self, i: usize, w: u8) -> u8
+        ensures { result ≡ role_at (words self.now) i w }
+    {
+        role_of(self.kind_at(i), w)
+    }
 }

@@ -1,6 +1,9 @@
 // Words of records, through one numbering. Every function is total: past the end of a file a word is 0.
 ghost use Rattle.std.specs.Prelude.{◌≡◌, ◌<◌, get_or};
-ghost use Rattle.reader.specs.Words.{le32, word_of, word, record_count};
+ghost use Rattle.reader.specs.Files.{words};
+ghost use Rattle.reader.specs.Words.{le32, word_from, word_of, record_count};
+
+use crate::Files;
 
 // Byte k; 0 past the end.
 fn byte_at(s: &[u8], k: usize) -> u8
@@ -9,7 +12,7 @@ fn byte_at(s: &[u8], k: usize) -> u8
     if k < s.len() { s[k] } else { 0 }
 }
 
-fn join(a: u8, b: u8, c: u8, d: u8) -> usize
+pub(crate) fn join(a: u8, b: u8, c: u8, d: u8) -> usize
     ensures { result ≡ le32 a b c d }
 {
     (a as usize) + 256 * (b as usize) + 65536 * (c as usize) + 16777216 * (d as usize)
@@ -46,19 +49,32 @@ pub fn word_of(s: &[u8], i: usize, w: u8) -> usize
     join(s[at], s[at + 1], s[at + 2], s[at + 3])
 }
 
-// Word w of record i of two files: records 1 to m stand in the obligation, m + 1 on in the second file.
-pub fn word_at(obligation: &[u8], second: &[u8], m: usize, i: usize, w: u8) -> usize
-    ensures { result ≡ word obligation.now second.now m i w }
-{
-    if m < i {
-        return word_of(second, i - m, w);
-    }
-    word_of(obligation, i, w)
-}
-
 // How many whole records a file has, the header counted.
 pub fn record_count(s: &[u8]) -> usize
     ensures { result ≡ record_count s.now }
 {
     s.len() / 16
+}
+
+impl<'a> Files<'a> {
+    // Both files, where the obligation has m records.
+    pub fn new(obligation: &'a [u8], second: &'a [u8], m: usize) -> Self
+        ensures { (result.obligation ≡ obligation.entry) × (result.second ≡ second.entry) × (result.m ≡ m) }
+    {
+        Files {
+            obligation,
+            second,
+            m,
+        }
+    }
+
+    // Word w of record i.
+    pub fn word_at(&self, i: usize, w: u8) -> usize
+        ensures { result ≡ words self.now i w }
+    {
+        if self.m < i {
+            return word_of(self.second, i - self.m, w);
+        }
+        word_of(self.obligation, i, w)
+    }
 }

@@ -1,5 +1,5 @@
 -- The ways out of the code for the places, one after the other.
-use Rattle.std.specs.Prelude.{ℕ, ◌+◌, ◌*◌, ◌-◌, ◌<◌, ◌≤◌, ◌≡◌, List, [], Bool, true, false, not, eqb, ltb, length, get_or, replicate}
+use Rattle.std.specs.Prelude.{ℕ, ◌+◌, ◌*◌, ◌-◌, ◌<◌, ◌≤◌, ◌≡◌, List, [], Bool, true, false, not, eqb, ltb, length, get_or, replicate, Err}
 use Rattle.std.proofs.Math.Path.{refl, ap}
 use Rattle.std.proofs.Common.{sym, ◌∙◌}
 use Rattle.std.proofs.lemmas.List.{length-replicate, get_or-replicate}
@@ -7,6 +7,9 @@ use Rattle.std.proofs.Math.ListN.{get_or-eq_default}
 use native.Mathlib.Omega.{arith}
 use borrow.Author.Tests.{not-true, not-false, ne_eqb, ltb-true, ltb-false}
 use Rattle.reader.specs.declared.Answer.{Answer}
+use Rattle.reader.specs.declared.Fault.{Fault}
+use Rattle.reader.specs.declared.Refusal.{Refusal}
+use Rattle.reader.specs.Refusals.{number_of, reading_of}
 use Rattle.reader.specs.Words.{Reader, word_of, word, record_count}
 use Rattle.reader.specs.Tests.{demand, if_eq}
 use Rattle.reader.specs.Kinds.{is_rule}
@@ -20,6 +23,10 @@ use Rattle.reader_equality.specs.Tables.{Zeros}
 use Rattle.reader_naming.specs.Totals.{Cleared}
 use Rattle.reader_headers.specs.Headers.{records_most, count_is, count_below, counts_in}
 use Rattle.reader_headers.specs.Roots.{roots_fit}
+
+-- a refusal of a whole file, as the answer's numbers
+pub refused_is : (q : Refusal) (k : Fault) (f : ℕ) → q ≡ record { fault = k; file = f; at = 0; nodes = 0 } → reading_of (Err q) ≡ answer (number_of k) f 0 0
+refused_is q k f e = ap (λ (x : Refusal). reading_of (Err x)) e
 
 -- a table whose entry 0 is 0
 pub record Blank (table : List ℕ) : Type 0 where

@@ -6,7 +6,7 @@ use Rattle.reader.specs.declared.Answer.{Answer}
 use Rattle.reader.specs.Words.{Reader}
 use Rattle.reader.specs.Tests.{demand, if_eq, if_lt, if_true}
 use Rattle.reader.specs.Kinds.{is_rule}
-use Rattle.reader.specs.Answers.{answer, accepted, placed, or_answer, first_fault}
+use Rattle.reader.specs.Answers.{answer, placed, or_answer, first_fault}
 use Rattle.reader.specs.Places.{namings, naming_fault}
 use Rattle.reader_names.specs.Taken.{Names}
 use Rattle.reader_equality.specs.Tables.{zeros_take, zeros_drop, zeros_join}
@@ -23,9 +23,6 @@ late_none w e n = absurd (n e)
 
 pub late_refused : (q : Answer) (f : ℕ) → q ≡ answer 11 f 0 0 → Late q.refusal
 late_refused q f e n = let w : q.refusal ≡ 11 = ap (λ (x : Answer). x.refusal) e in omega arith
-
-pub late_passed : (q : Answer) → q ≡ accepted 0 → Late q.refusal
-late_passed q e = late_none q.refusal (ap (λ (x : Answer). x.refusal) e)
 
 late_first : (fault : ℕ → ℕ) (f k i : ℕ) → ((j : ℕ) → Late (fault j)) → Late (first_fault fault f k i).refusal
 unfolding first_fault

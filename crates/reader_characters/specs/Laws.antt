@@ -8,15 +8,14 @@ use Rattle.std.proofs.lemmas.Bool.{false≢true}
 use Rattle.std.proofs.Math.Dec.{eqb, eqb-suc-zero}
 use Rattle.std.proofs.Math.ListN.{get_or}
 use borrow.Author.Tests.{eq-eqb, ne_eqb, eqb-true, eqb-false}
-use Rattle.reader.specs.Words.{Reader, word}
-use Rattle.reader.specs.WordLaws.{word_small}
+use Rattle.reader.specs.Words.{Reader}
 use Rattle.reader.specs.Tests.{both, every, if_eq, if_lt, if_true}
 use Rattle.reader.specs.Trees.{lower}
 use Rattle.reader.specs.Chains.{linked}
 use Rattle.reader.specs.TreeLaws.{linked_zero, linked_step_lem}
 use Rattle.reader.specs.Names.{bytes_of, record_bytes, trimmed, name_bytes}
-use Rattle.reader_view.specs.declared.Record.{Record}
-use Rattle.reader_view.specs.Records.{RecordIs}
+use Rattle.reader.specs.declared.Record.{Record}
+use Rattle.reader.specs.Fetched.{RecordIs}
 use Rattle.reader_characters.specs.declared.Step.{Step}
 use Rattle.reader_characters.specs.Steps.{digits, top, left_bytes, rest_bytes, Held, step, nothing, read, Left, FirstByte}
 
@@ -140,13 +139,6 @@ record_digits rd r a b ea eb small =
     let b2 : b / 256 / 256 ≡ b / 65536 = omega arith in
     let b3 : b / 65536 / 256 ≡ b / 16777216 = omega arith in
     rw (v0, v1, v2, v3, d0, d1, d2, d3, b2, b3, ea, eb)
-
--- What `fetched` gives: words of files of bytes.
-pub words_small : (obligation second : List ℕ) (m r : ℕ) (x : Record) → RecordIs (word obligation second m) r x →
-    ((k : ℕ) → get_or obligation k 0 < 256) → ((k : ℕ) → get_or second k 0 < 256) →
-    RecordIs (word obligation second m) r x × (x.a < 4294967296) × (x.b < 4294967296)
-words_small obligation second m r x is h g =
-    (is, omega (arith, is.a_is, word_small obligation second m r 1 h g), omega (arith, is.b_is, word_small obligation second m r 2 h g))
 
 nothing_held : Held nothing
 unfolding top

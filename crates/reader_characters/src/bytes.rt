@@ -1,14 +1,14 @@
 // The bytes of a name, read one by one; a record is fetched once for its 8 bytes.
 ghost use Rattle.std.specs.Prelude.{◌≡◌, ◌<◌, eqb};
-ghost use Rattle.reader.specs.Words.{word};
+ghost use Rattle.reader.specs.Files.{words};
 ghost use Rattle.reader.specs.Tests.{both, if_lt};
 ghost use Rattle.reader.specs.Chains.{linked};
 ghost use Rattle.reader.specs.Names.{name_bytes};
-ghost use Rattle.reader_view.specs.Records.{RecordIs};
+ghost use Rattle.reader.specs.Fetched.{RecordIs};
 ghost use Rattle.reader_characters.specs.Steps.{rest_bytes, Held, nothing, Left, FirstByte};
 
 use crate::Step;
-use reader_view::{Record, views};
+use reader::{Files, Record};
 
 // Nothing was read, and nothing is left.
 fn none() -> Step
@@ -31,20 +31,20 @@ fn smaller(c: usize, r: usize) -> usize
 }
 
 // Record r; its words have 32 bits.
-fn fetched(obligation: &[u8], second: &[u8], m: usize, r: usize) -> Record
-    ensures { RecordIs (word obligation.now second.now m) r result × (result.a < 4294967296) × (result.b < 4294967296) }
+fn fetched(files: &Files, r: usize) -> Record
+    ensures { RecordIs (words files.now) r result × (result.a < 4294967296) × (result.b < 4294967296) }
 {
-    views::record_of(obligation, second, m, r)
+    files.record_at(r)
 }
 
 // The step before the first byte of the name whose first record is r.
-pub fn start(obligation: &[u8], second: &[u8], m: usize, r: usize) -> Step
-    ensures { Left (word obligation.now second.now m) (name_bytes (word obligation.now second.now m) (linked (word obligation.now second.now m) r)) result }
+pub fn start(files: &Files, r: usize) -> Step
+    ensures { Left (words files.now) (name_bytes (words files.now) (linked (words files.now) r)) result }
 {
     if r == 0 {
         return none();
     }
-    let x = fetched(obligation, second, m, r);
+    let x = fetched(files, r);
     Step {
         more: false,
         value: 0,
@@ -65,9 +65,9 @@ fn is_end(s: Step) -> bool
 }
 
 // The byte of a name behind a step.
-pub fn next_byte(obligation: &[u8], second: &[u8], m: usize, s: Step) -> Step
+pub fn next_byte(files: &Files, s: Step) -> Step
     requires { Held s }
-    ensures { FirstByte (word obligation.now second.now m) (rest_bytes (word obligation.now second.now m) s) result }
+    ensures { FirstByte (words files.now) (rest_bytes (words files.now) s) result }
 {
     if is_end(s) {
         return none();
@@ -81,7 +81,7 @@ pub fn next_byte(obligation: &[u8], second: &[u8], m: usize, s: Step) -> Step
             after: s.after,
         };
     }
-    let follows = start(obligation, second, m, s.after);
+    let follows = start(files, s.after);
     Step {
         more: true,
         value: s.bytes % 256,

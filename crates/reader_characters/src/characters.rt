@@ -1,11 +1,12 @@
 // The characters of a name, read one by one.
 ghost use Rattle.std.specs.Prelude.{◌≡◌, ◌∷◌, true, get_or};
-ghost use Rattle.reader.specs.Words.{word};
+ghost use Rattle.reader.specs.Files.{words};
 ghost use Rattle.reader.specs.Chains.{linked};
 ghost use Rattle.reader.specs.Names.{name_bytes, is_letter, is_digit_or_underscore, single, accented, characters, starts_well};
 ghost use Rattle.reader_characters.specs.Steps.{rest_bytes, Held, step, FirstCharacter, is_spelled};
 
 use crate::{Step, accents, bytes};
+use reader::Files;
 use reader::tests::is_between;
 
 fn is_letter(b: usize) -> bool
@@ -69,11 +70,11 @@ fn spelled_before(value: usize, s: Step) -> Step
 }
 
 // The character of C3, which s has read, and the byte behind it.
-fn accented_character(obligation: &[u8], second: &[u8], m: usize, s: Step) -> Step
+fn accented_character(files: &Files, s: Step) -> Step
     requires { Held s }
-    ensures { FirstCharacter (word obligation.now second.now m) (characters (195 ∷ rest_bytes (word obligation.now second.now m) s)) result }
+    ensures { FirstCharacter (words files.now) (characters (195 ∷ rest_bytes (words files.now) s)) result }
 {
-    let last = bytes::next_byte(obligation, second, m, s);
+    let last = bytes::next_byte(files, s);
     if !last.more {
         return spelled_before(0, s);
     }
@@ -81,12 +82,12 @@ fn accented_character(obligation: &[u8], second: &[u8], m: usize, s: Step) -> St
 }
 
 // The character of the byte that s has read, not C3, and the mark behind it; of the byte alone, where the mark has no second byte.
-fn marked_character(obligation: &[u8], second: &[u8], m: usize, s: Step) -> Step
-    requires { Held s × (s.value ≡ 195 → ⊥) × (get_or (rest_bytes (word obligation.now second.now m) s) 0 0 ≡ 204) }
-    ensures { FirstCharacter (word obligation.now second.now m) (characters (s.value ∷ rest_bytes (word obligation.now second.now m) s)) result }
+fn marked_character(files: &Files, s: Step) -> Step
+    requires { Held s × (s.value ≡ 195 → ⊥) × (get_or (rest_bytes (words files.now) s) 0 0 ≡ 204) }
+    ensures { FirstCharacter (words files.now) (characters (s.value ∷ rest_bytes (words files.now) s)) result }
 {
-    let mark = bytes::next_byte(obligation, second, m, s);
-    let last = bytes::next_byte(obligation, second, m, mark);
+    let mark = bytes::next_byte(files, s);
+    let last = bytes::next_byte(files, mark);
     if !last.more {
         return spelled_before(single_of(s.value), s);
     }
@@ -94,44 +95,44 @@ fn marked_character(obligation: &[u8], second: &[u8], m: usize, s: Step) -> Step
 }
 
 // The character of a name behind a step.
-pub fn next_character(obligation: &[u8], second: &[u8], m: usize, s: Step) -> Step
+pub fn next_character(files: &Files, s: Step) -> Step
     requires { Held s }
-    ensures { FirstCharacter (word obligation.now second.now m) (characters (rest_bytes (word obligation.now second.now m) s)) result }
+    ensures { FirstCharacter (words files.now) (characters (rest_bytes (words files.now) s)) result }
 {
-    let first = bytes::next_byte(obligation, second, m, s);
+    let first = bytes::next_byte(files, s);
     if !first.more {
         return first;
     }
     if first.value == 195 {
-        return accented_character(obligation, second, m, first);
+        return accented_character(files, first);
     }
     if first.bytes % 256 == 204 {
-        return marked_character(obligation, second, m, first);
+        return marked_character(files, first);
     }
     spelled_before(single_of(first.value), first)
 }
 
 // Do the bytes of the name whose first record is `first` all spell characters?
-pub fn is_spelled(obligation: &[u8], second: &[u8], m: usize, first: usize) -> bool
-    ensures { result ≡ is_spelled (characters (name_bytes (word obligation.now second.now m) (linked (word obligation.now second.now m) first))) }
+pub fn is_spelled(files: &Files, first: usize) -> bool
+    ensures { result ≡ is_spelled (characters (name_bytes (words files.now) (linked (words files.now) first))) }
 {
-    let before = bytes::start(obligation, second, m, first);
-    let mut s = next_character(obligation, second, m, before);
+    let before = bytes::start(files, first);
+    let mut s = next_character(files, before);
     while s.more {
         if s.value == 0 {
             return false;
         }
-        s = next_character(obligation, second, m, s);
+        s = next_character(files, s);
     }
     true
 }
 
 // Is its first character no digit and no underscore?
-pub fn starts_well(obligation: &[u8], second: &[u8], m: usize, first: usize) -> bool
-    ensures { result ≡ starts_well (characters (name_bytes (word obligation.now second.now m) (linked (word obligation.now second.now m) first))) }
+pub fn starts_well(files: &Files, first: usize) -> bool
+    ensures { result ≡ starts_well (characters (name_bytes (words files.now) (linked (words files.now) first))) }
 {
-    let before = bytes::start(obligation, second, m, first);
-    let s = next_character(obligation, second, m, before);
+    let before = bytes::start(files, first);
+    let s = next_character(files, before);
     if !s.more {
         return false;
     }

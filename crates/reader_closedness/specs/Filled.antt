@@ -9,8 +9,8 @@ use Rattle.reader.specs.Words.{Reader}
 use Rattle.reader.specs.Tests.{if_true}
 use Rattle.reader.specs.TestLaws.{eq_yes, eq_no}
 use Rattle.reader.specs.Trees.{child, atom, tree}
-use Rattle.reader_view.specs.declared.Record.{Record}
-use Rattle.reader_view.specs.Records.{RecordIs}
+use Rattle.reader.specs.declared.Record.{Record}
+use Rattle.reader.specs.Fetched.{RecordIs}
 use Rattle.reader_equality.specs.declared.Parts.{Parts}
 use Rattle.reader_equality.specs.Keys.{part_in, part_in_below}
 use Rattle.reader_equality.specs.Shapes.{PartsAre}

@@ -11,8 +11,8 @@ use Rattle.reader.specs.Trees.{child, atom, tree}
 use Rattle.reader.specs.TreeLaws.{tree_zero, tree_step_lem, child_below}
 use Rattle.reader.specs.Variables.{binders, indices_below, types_below}
 use Rattle.reader_chains.specs.Shapes.{atom_first}
-use Rattle.reader_view.specs.declared.Record.{Record}
-use Rattle.reader_view.specs.Records.{RecordIs}
+use Rattle.reader.specs.declared.Record.{Record}
+use Rattle.reader.specs.Fetched.{RecordIs}
 use Rattle.reader_equality.specs.Keys.{part_in, part_in_lem, part_child}
 use Rattle.reader_closedness.specs.Reach.{larger, variable, crossed, own_reach, reach, indices_reach, types_reach}
 

@@ -1,20 +1,20 @@
 // Fills the table, records rising: entry 2 i has the reach of record i's indices, entry 2 i + 1 that of its type variables.
 ghost use Rattle.std.specs.Prelude.{◌≡◌, ◌+◌, ◌*◌, ◌<◌, length};
-ghost use Rattle.reader.specs.Words.{word};
-ghost use Rattle.reader_view.specs.Records.{RecordIs};
+ghost use Rattle.reader.specs.Files.{words};
+ghost use Rattle.reader.specs.Fetched.{RecordIs};
 ghost use Rattle.reader_closedness.specs.Reach.{own_reach};
 ghost use Rattle.reader_closedness.specs.Reaches.{Reached};
 ghost use Rattle.reader_closedness.specs.Filled.{PartsBelow, reach_in};
 
 use crate::reaches::{entry_of, larger, reach_at, under, variable};
+use reader::{Files, Record};
 use reader_equality::{Parts, shapes};
-use reader_view::{Record, views};
 
 // Record i: its words are no larger than a word.
-fn record_at(obligation: &[u8], second: &[u8], m: usize, i: usize) -> Record
-    ensures { RecordIs (word obligation.now second.now m) i result × (result.a < 4294967296) }
+fn record_at(files: &Files, i: usize) -> Record
+    ensures { RecordIs (words files.now) i result × (result.a < 4294967296) }
 {
-    views::record_of(obligation, second, m, i)
+    files.record_at(i)
 }
 
 // What a record, whose words are v, reaches for itself.
@@ -41,16 +41,16 @@ fn reach_in(reaches: &[usize], types: bool, v: Record, parts: Parts) -> usize
 }
 
 // Makes both entries of record i, which is fetched once.
-fn reach_record(obligation: &[u8], second: &[u8], m: usize, reaches: &mut [usize], i: usize)
-    requires { (2 * i + 1 < length reaches.old) × Reached (word obligation.now second.now m) reaches.old (2 * i) }
-    ensures { Reached (word obligation.now second.now m) reaches.new (2 * i + 2) }
+fn reach_record(files: &Files, reaches: &mut [usize], i: usize)
+    requires { (2 * i + 1 < length reaches.old) × Reached (words files.now) reaches.old (2 * i) }
+    ensures { Reached (words files.now) reaches.new (2 * i + 2) }
 {
     if i == 0 {
         reaches[0] = 0;
         reaches[1] = 0;
         return;
     }
-    let v = record_at(obligation, second, m, i);
+    let v = record_at(files, i);
     let parts = shapes::parts_in(true, i, v);
     let indices = reach_in(reaches, false, v, parts);
     let types = reach_in(reaches, true, v, parts);
@@ -60,16 +60,14 @@ fn reach_record(obligation: &[u8], second: &[u8], m: usize, reaches: &mut [usize
 
 // Fills the table; past the end of the files a record reads as zeros. When a record's entries are made, the table has its parts. A last entry that
 // stands alone is made by the recursion.
-pub fn reach_all(obligation: &[u8], second: &[u8], m: usize, reaches: &mut [usize])
-    ensures { Reached (word obligation.now second.now m) reaches.new (length reaches.new) }
+pub fn reach_all(files: &Files, reaches: &mut [usize])
+    ensures { Reached (words files.now) reaches.new (length reaches.new) }
 {
     let n = reaches.len() / 2;
-    let mut i: usize = 0;
-    while i < n {
-        reach_record(obligation, second, m, reaches, i);
-        i += 1;
+    for i in 0..n {
+        reach_record(files, reaches, i);
     }
     if 2 * n < reaches.len() {
-        reaches[2 * n] = reach_at(obligation, second, m, reaches, n, false, n);
+        reaches[2 * n] = reach_at(files, reaches, n, false, n);
     }
 }

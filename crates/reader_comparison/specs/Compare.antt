@@ -10,8 +10,8 @@ use borrow.Author.Tests.{eqb-true, eqb-false, eq-eqb, ne_eqb, ltb-true, lt-ltb, 
 use Rattle.reader_equality.specs.Least.{Numbered, numbers_same}
 use Rattle.reader_equality.specs.Keys.{part_child, atom_in, part_in, atom_in_lem, part_in_lem, part_in_below}
 use Rattle.reader.specs.Words.{Reader}
-use Rattle.reader_view.specs.declared.Record.{Record}
-use Rattle.reader_view.specs.Records.{RecordIs}
+use Rattle.reader.specs.declared.Record.{Record}
+use Rattle.reader.specs.Fetched.{RecordIs}
 use Rattle.reader.specs.Tests.{both, if_eq, if_true}
 use Rattle.reader.specs.DownLaws.{Local, down_zero, down_step}
 use Rattle.reader.specs.Down.{down}

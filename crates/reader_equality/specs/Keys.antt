@@ -1,6 +1,6 @@
 -- The key of a record: its kind, its atom, and what a table says of its parts, all of them or those that are no types. Where the table has the numbers of
 -- the smaller records, records that are not 0 have equal trees exactly when their keys are equal.
-use Rattle.std.specs.Prelude.{ℕ, ◌+◌, ◌*◌, ◌/◌, ◌%◌, ◌<◌, ◌≤◌, ◌≡◌, List, Bool, true, false, not, eqb, ltb, length, get_or, set}
+use Rattle.std.specs.Prelude.{ℕ, ◌+◌, ◌*◌, ◌/◌, ◌%◌, ◌<◌, ◌≤◌, ◌≡◌, List, Bool, true, false, not, ◌&&◌, eqb, ltb, length, get_or, set}
 use Rattle.std.proofs.Math.Path.{refl, sym, ap}
 use Rattle.std.proofs.Common.{◌∙◌, lit<, get_or-set_other, arith}
 use Rattle.std.proofs.lemmas.Bool.{false≢true}
@@ -8,8 +8,8 @@ use borrow.Author.Tests.{eqb-true, eq-eqb, ne_eqb, ltb-true, lt-ltb, le-ltb, not
 use Rattle.reader_equality.specs.declared.Key.{Key}
 use Rattle.reader_equality.specs.Least.{least, least_equal, least_one, Numbered}
 use Rattle.reader.specs.Words.{Reader}
-use Rattle.reader_view.specs.declared.Record.{Record}
-use Rattle.reader_view.specs.Records.{RecordIs, word_in, word_in_lem}
+use Rattle.reader.specs.declared.Record.{Record}
+use Rattle.reader.specs.Fetched.{RecordIs, word_in, word_in_lem}
 use Rattle.reader.specs.Tests.{if_eq, if_lt, if_true}
 use Rattle.reader.specs.Kinds.{role, is_symbol, is_number, role_at}
 use Rattle.reader.specs.Trees.{lower, child, atom, tree}
@@ -140,6 +140,22 @@ unfolding same_key if_eq
 same_key_self k =
     simp (if_eq, eq-eqb k.kind k.kind refl, eq-eqb k.atom k.atom refl, eq-eqb k.first k.first refl, eq-eqb k.second k.second refl, eq-eqb k.third k.third refl)
 
+-- what `==` answers, field by field
+abbrev pub fields_equal : Key → Key → Bool
+fields_equal k l = eqb k.kind l.kind && (eqb k.atom l.atom && (eqb k.first l.first && (eqb k.second l.second && eqb k.third l.third)))
+
+and_if : (a b : ℕ) (x : Bool) → (eqb a b && x) ≡ if_eq a b x false
+unfolding if_eq
+and_if a b x = go (eqb a b)
+  where
+    go : (t : Bool) → (t && x) ≡ elim t as (λ t. Bool) [ true ↦ x | false ↦ false ]
+    go true = refl
+    go false = refl
+
+pub fields_same : (k l : Key) → fields_equal k l ≡ same_key k l
+unfolding same_key
+fields_same k l = simp and_if
+
 -- what the code's test says of the key x, which it holds as k
 module _ (k l x : Key) (ex : k ≡ x) (r : Bool) (er : r ≡ same_key k l) where
   pub keys_equal : r ≡ true → x ≡ l
@@ -233,9 +249,9 @@ key_in_lem rd types table i x e =
 
 -- The ways out of `has_key`, which has the words x of record i.
 module _ (types : Bool) (table : List ℕ) (i : ℕ) (x : Record) (l : Key) where
-  pub other_kind : (x.kind ≡ l.kind → ⊥) → false ≡ same_key (key_in types table i x) l
+  pub other_kind : (x.kind ≡ l.kind → ⊥) → eqb x.kind l.kind ≡ same_key (key_in types table i x) l
   unfolding same_key key_in if_eq
   other_kind h = simp (if_eq, ne_eqb x.kind l.kind h)
 
-  pub same_kind : (k : Key) → k ≡ key_in types table i x → (r : Bool) → r ≡ same_key k l → r ≡ same_key (key_in types table i x) l
-  same_kind k ek r e = rw (← ek) e
+  pub same_kind : (k : Key) → k ≡ key_in types table i x → (r : Bool) → r ≡ fields_equal k l → r ≡ same_key (key_in types table i x) l
+  same_kind k ek r e = rw (← ek) (e ∙ fields_same k l)

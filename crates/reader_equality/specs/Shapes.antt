@@ -9,8 +9,8 @@ use Rattle.reader.specs.Tests.{if_eq, if_lt, if_true}
 use Rattle.reader.specs.TestLaws.{eq_yes, eq_no}
 use Rattle.reader.specs.Kinds.{Layout, layout, role, is_symbol, is_number}
 use Rattle.reader.specs.KindLaws.{row_rule, row_none}
-use Rattle.reader_view.specs.declared.Record.{Record}
-use Rattle.reader_view.specs.Records.{word_in}
+use Rattle.reader.specs.declared.Record.{Record}
+use Rattle.reader.specs.Fetched.{word_in}
 use Rattle.reader_equality.specs.declared.Key.{Key}
 use Rattle.reader_equality.specs.declared.Parts.{Parts}
 use Rattle.reader_equality.specs.Keys.{key, is_part, atom_in, part_in, key_in, part_in_table}

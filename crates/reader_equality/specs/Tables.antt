@@ -9,27 +9,6 @@ use Rattle.std.proofs.lemmas.Bool.{eqb-false}
 pub record Zeros (table : List ℕ) : Type 0 where
   pub zeros : (k : ℕ) → get_or table k 0 ≡ 0
 
--- the entries below k are zeros
-pub record ZerosBelow (table : List ℕ) (k : ℕ) : Type 0 where
-  pub zeros : (q : ℕ) → q < k → get_or table q 0 ≡ 0
-
-pub zeros_none : (table : List ℕ) → ZerosBelow table 0
-zeros_none table = record { zeros = λ q h. absurd (omega arith) }
-
-pub zeros_more : (table : List ℕ) (k : ℕ) → k < length table → ZerosBelow table k → ZerosBelow (set table k 0) (k + 1)
-zeros_more table k p f = record { zeros = λ q h. go q h (eqb q k) refl }
-  where
-    go : (q : ℕ) → q < k + 1 → (b : Bool) → eqb q k ≡ b → get_or (set table k 0) q 0 ≡ 0
-    go q h true t = let one : q ≡ k = eqb-true q k t in rw one (get_or-set_same table k 0 0 p)
-    go q h false t = let n = eqb-false q k t in get_or-set_other table k q 0 0 n ∙ f.zeros q (omega arith)
-
-pub zeros_all : (table : List ℕ) (k : ℕ) → length table ≤ k → ZerosBelow table k → Zeros table
-zeros_all table k h f = record { zeros = λ q. go q (ltb q k) refl }
-  where
-    go : (q : ℕ) → (b : Bool) → ltb q k ≡ b → get_or table q 0 ≡ 0
-    go q true t = f.zeros q (ltb-true q k t)
-    go q false t = get_or-eq_default table 0 (omega (arith, ltb-false q k t))
-
 -- a table made of zeros, and parts of such tables
 pub zeros_made : (n : ℕ) → Zeros (replicate n 0)
 zeros_made n = record { zeros = go n }
@@ -38,6 +17,10 @@ zeros_made n = record { zeros = go n }
     go zero k = refl
     go (suc n) zero = refl
     go (suc n) (suc k) = go n k
+
+-- a table that was filled with zeros
+pub zeros_filled : (n : ℕ) (table : List ℕ) → table ≡ replicate n 0 → Zeros table
+zeros_filled n table e = rw e (zeros_made n)
 
 pub zeros_take : (n : ℕ) (table : List ℕ) → Zeros table → Zeros (take n table)
 zeros_take n table z = record { zeros = λ k. go k (ltb k n) refl }
@@ -57,10 +40,7 @@ zeros_join first second z y = record { zeros = go first z.zeros }
     go (x ∷ xs) f zero = f zero
     go (x ∷ xs) f (suc k) = go xs (λ q. f (suc q)) k
 
--- The ways out of `entry_at` and `store`.
-pub entry_past : (table : List ℕ) (k : ℕ) → length table ≤ k → 0 ≡ get_or table k 0
-entry_past table k h = sym (get_or-eq_default table 0 h)
-
+-- the way out of `store` past the end
 pub store_past : (table : List ℕ) (k v : ℕ) → length table ≤ k → table ≡ set table k v
 store_past table k v h = sym (set_out table k v h)
 

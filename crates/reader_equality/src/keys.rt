@@ -1,12 +1,12 @@
 // The key of a record, from a table of the smaller records; where the search for a key starts and how it goes on. Types may be left out.
 ghost use Rattle.std.specs.Prelude.{◌≡◌, ◌<◌, ◌≤◌, length};
-ghost use Rattle.reader.specs.Words.{word};
+ghost use Rattle.reader.specs.Files.{words};
 ghost use Rattle.reader_equality.specs.Keys.{is_part, part_at, part_entry, atom_in, part_in, key_in, bucket_of, side_of, turned, same_key};
 ghost use Rattle.reader_equality.specs.Shapes.{shape_of};
 
-use crate::{Key, shapes, tables};
-use reader::{kinds, trees};
-use reader_view::{Record, views};
+use crate::{Key, shapes};
+use reader::kinds::Role;
+use reader::{Files, Record, kinds};
 
 // What tells record i, whose words are x, from others of its kind.
 pub fn atom_of(i: usize, x: Record) -> usize
@@ -19,53 +19,36 @@ pub fn atom_of(i: usize, x: Record) -> usize
 fn is_part(types: bool, role: u8) -> bool
     ensures { result ≡ is_part types role }
 {
-    if role < 10 {
+    if role < Role::Item as u8 {
         return false;
     }
     if types {
         return true;
     }
-    if role == 12 {
+    if role == Role::Type as u8 {
         return false;
     }
-    role != 16
+    role != Role::Types as u8
 }
 
 // The part that word w of record i, whose kind is k, refers to; 0 for none.
-pub fn part_at(
-    obligation: &[u8],
-    second: &[u8],
-    m: usize,
-    types: bool,
-    i: usize,
-    k: usize,
-    w: u8,
-) -> usize
-    requires { k ≡ word obligation.now second.now m i 0 }
-    ensures { result ≡ part_at (word obligation.now second.now m) types i w }
+pub fn part_at(files: &Files, types: bool, i: usize, k: usize, w: u8) -> usize
+    requires { k ≡ words files.now i 0 }
+    ensures { result ≡ part_at (words files.now) types i w }
 {
     if !is_part(types, kinds::role_of(k, w)) {
         return 0;
     }
-    trees::lower_at(obligation, second, m, i, w)
+    files.lower_at(i, w)
 }
 
 // What the table says of that part.
-pub fn part_entry(
-    obligation: &[u8],
-    second: &[u8],
-    m: usize,
-    types: bool,
-    table: &[usize],
-    i: usize,
-    k: usize,
-    w: u8,
-) -> usize
-    requires { (k ≡ word obligation.now second.now m i 0) × (0 < i) × (i ≤ length table.now) }
-    ensures { result ≡ part_entry (word obligation.now second.now m) types table.now i w }
+#[tactic(auto, using(crate::specs::Keys::part_at_table, crate::specs::Keys::entry_is))]
+pub fn part_entry(files: &Files, types: bool, table: &[usize], i: usize, k: usize, w: u8) -> usize
+    requires { (k ≡ words files.now i 0) × (0 < i) × (i ≤ length table.now) }
+    ensures { result ≡ part_entry (words files.now) types table.now i w }
 {
-    let x = part_at(obligation, second, m, types, i, k, w);
-    tables::entry(table, x)
+    table[part_at(files, types, i, k, w)]
 }
 
 // The part that word w of record i, whose words are x, refers to; 0 for none.
@@ -75,7 +58,7 @@ pub fn part_of(types: bool, i: usize, x: Record, w: u8) -> usize
     if !is_part(types, kinds::role_of(x.kind, w)) {
         return 0;
     }
-    let a = views::word_in(x, w);
+    let a = x.word_in(w);
     if a < i { a } else { 0 }
 }
 
@@ -88,9 +71,9 @@ pub fn key_in(types: bool, table: &[usize], shape: u32, i: usize, x: Record) -> 
     Key {
         kind: x.kind,
         atom: shapes::atom_by(shape, i, x),
-        first: tables::entry(table, parts.first),
-        second: tables::entry(table, parts.second),
-        third: tables::entry(table, parts.third),
+        first: table[parts.first],
+        second: table[parts.second],
+        third: table[parts.third],
     }
 }
 
@@ -99,29 +82,7 @@ pub fn has_key(types: bool, table: &[usize], shape: u32, i: usize, x: Record, ke
     requires { (shape ≡ shape_of key.kind) × (0 < i) × (i ≤ length table.now) }
     ensures { result ≡ same_key (key_in types table.now i x) key }
 {
-    if x.kind != key.kind {
-        return false;
-    }
-    same_key(key_in(types, table, shape, i, x), key)
-}
-
-// Are two keys equal?
-pub fn same_key(k: Key, l: Key) -> bool
-    ensures { result ≡ same_key k l }
-{
-    if k.kind != l.kind {
-        return false;
-    }
-    if k.atom != l.atom {
-        return false;
-    }
-    if k.first != l.first {
-        return false;
-    }
-    if k.second != l.second {
-        return false;
-    }
-    k.third == l.third
+    x.kind == key.kind && key_in(types, table, shape, i, x) == key
 }
 
 // The slot at which the search for a key starts.

@@ -6,7 +6,7 @@ pub mod shapes;
 pub mod tables;
 
 // What tells a record's tree from others: its kind, its atom, and what a table says of its parts.
-#[derive(Clone, Copy)]
+#[derive(Clone, Copy, PartialEq, Eq)]
 pub struct Key {
     pub kind: usize,
     pub atom: usize,

@@ -5,8 +5,9 @@ ghost use Rattle.reader_equality.specs.Keys.{atom_in};
 ghost use Rattle.reader_equality.specs.Shapes.{shape_of, PartsAre};
 
 use crate::Parts;
-use reader_view::Record;
+use reader::Record;
 
+// No plainer with `Kind`: a `match` takes it only from a function that lists all its numbers again.
 // The shape of kind k, a bit for each: words 3 to 1 are parts; the record is a symbol, word 1 is a number; words 3 to 1 are parts that are no types.
 pub fn shape_of(k: usize) -> u32
     ensures { result ≡ shape_of k }

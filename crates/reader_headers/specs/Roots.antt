@@ -1,16 +1,15 @@
 -- The ways out of the code for an obligation's roots.
 use Rattle.std.specs.Prelude.{ℕ, ◌≡◌, Bool, true, false, not, eqb, leb, length}
 use Rattle.std.proofs.Math.Path.{ap}
-use mathlib.Core.List.{List, map}
 use Rattle.std.proofs.Common.{arith}
 use borrow.Author.Tests.{eq-eqb, ne_eqb, not-true, not-false}
 use Rattle.reader.specs.Words.{Reader}
 use Rattle.reader.specs.Tests.{both, either, every, if_eq, if_lt}
 use Rattle.reader.specs.Kinds.{class}
-use Rattle.reader.specs.Trees.{Tree, lower, atom, tree, kind_of, atom_of}
+use Rattle.reader.specs.Trees.{Tree, atom, tree, kind_of, atom_of}
 use Rattle.reader.specs.Chains.{linked, item_trees}
 use Rattle.reader.specs.Variables.{indices_below, types_below, is_closed}
-use Rattle.reader.specs.TreeLaws.{tree_zero, tree_step_lem, items_zero, items_step}
+use Rattle.reader.specs.TreeLaws.{tree_zero, tree_step_lem}
 use Rattle.reader.specs.Places.{goal_fits, is_hypothesis, type_count, hypothesis_fits, hypotheses_fit}
 
 -- no unbound index, and no type variable from n on
@@ -54,23 +53,6 @@ module _ (rd : Reader) (i k : ℕ) (pos : i ≡ 0 → ⊥) (ek : k ≡ rd i 0) w
     pub hypothesis_formula : c ≡ 5 → (t : Bool) → t ≡ is_open_below 0 (tree rd i) → t ≡ hypothesis_fits (tree rd i)
     unfolding both either if_eq
     hypothesis_formula h t et = rw (hypothesis_of rd i pos, ← ek, ← ec) (simp (both, either, if_eq, eq-eqb c 5 h, ne_eqb k 22 other) et)
-
--- The loop over the chain: what is left of it gives the answer.
-module _ (rd : Reader) (test : Tree → Bool) (c l : ℕ) (inv : every test (item_trees rd c) ≡ every test (item_trees rd l)) where
-  trees_step : (l ≡ 0 → ⊥) → every test (item_trees rd l) ≡ elim (test (tree rd (lower rd l 1))) [ true ↦ every test (item_trees rd (lower rd l 3)) | false ↦ false ]
-  unfolding every item_trees
-  trees_step p = ap (λ (xs : List ℕ). every test (map (tree rd) xs)) (items_step rd l (omega arith))
-
-  module _ (p : l ≡ 0 → ⊥) (x : ℕ) (ex : x ≡ lower rd l 1) (r : Bool) (er : r ≡ test (tree rd x)) where
-    pub trees_stop : not r ≡ true → false ≡ every test (item_trees rd c)
-    trees_stop h = rw (inv, trees_step p, ← ex, ← er, not-true r h)
-
-    pub trees_more : not r ≡ false → (next : ℕ) → next ≡ lower rd l 3 → every test (item_trees rd c) ≡ every test (item_trees rd next)
-    trees_more h next e = rw (inv, trees_step p, ← ex, ← er, not-false r h, ← e)
-
-  pub trees_end : l ≡ 0 → true ≡ every test (item_trees rd c)
-  unfolding every item_trees
-  trees_end h = rw (inv, h, items_zero rd)
 
 module _ (rd : Reader) (c : ℕ) (ec : c ≡ rd 0 2) where
   pub hypotheses_none : c ≡ 0 → true ≡ hypotheses_fit rd

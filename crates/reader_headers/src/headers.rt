@@ -2,15 +2,20 @@
 ghost use Rattle.std.specs.Prelude.{◌≡◌};
 ghost use Rattle.reader.specs.Places.{most_records, length_fits, header_fits, counts_fit};
 
+use reader::kinds::Mode;
 use reader::words;
 
 fn most_records(mode: u8) -> usize
     ensures { result ≡ most_records mode }
 {
-    if mode == 1 {
+    if mode == Mode::Proof as u8 {
         return 3073;
     }
-    if mode == 2 { 200001 } else { 1024 }
+    if mode == Mode::Derivation as u8 {
+        200001
+    } else {
+        1024
+    }
 }
 
 // Has a file of kind `mode` a length that it may have?

@@ -12,12 +12,12 @@ use Rattle.reader.specs.Trees.{lower}
 use Rattle.reader.specs.Chains.{linked}
 use Rattle.reader.specs.TreeLaws.{linked_zero, linked_step_lem}
 use Rattle.reader.specs.Names.{name_of, bytes_of, record_bytes, trimmed, name_bytes, name}
-use Rattle.reader_view.specs.declared.Record.{Record}
-use Rattle.reader_view.specs.Records.{RecordIs}
+use Rattle.reader.specs.declared.Record.{Record}
+use Rattle.reader.specs.Fetched.{RecordIs}
 use Rattle.reader_characters.specs.Steps.{is_spelled}
 use Rattle.reader_characters.specs.Spelling.{is_spelled_cons}
 use Rattle.reader_equality.specs.declared.Key.{Key}
-use Rattle.reader_equality.specs.Keys.{same_key, same_key_equal}
+use Rattle.reader_equality.specs.Keys.{same_key, same_key_equal, fields_equal, fields_same}
 use Rattle.reader_names.specs.NameKeys.{has_room, dealt, spread, name_parts, spread_stop, spread_go, room_some, parts_name}
 use Rattle.reader_names.specs.PlainBytes.{is_plain_byte, every_in, every_more, plain_yes, plain_one, plain_no, plain_only}
 
@@ -268,9 +268,9 @@ module _ (rd : Reader) (i first : ℕ) (ef : first ≡ name_of rd i) (t : Bool) 
   unfolding plain_name if_true
   name_other h = simp (plain_name, if_true, ← ef, ← et, h)
 
--- The ways out of `same_bytes_lem`.
+-- The ways out of `same_bytes`.
 module _ (a b c d : ℕ) where
-  pub same_first : (a ≡ c → ⊥) → false ≡ both (eqb a c) (eqb b d)
+  pub same_first : (a ≡ c → ⊥) → eqb a c ≡ both (eqb a c) (eqb b d)
   unfolding both
   same_first h = simp (both, ne_eqb a c h)
 
@@ -313,5 +313,5 @@ module _ (rd : Reader) (plain : ℕ) (parts : Key) (apart : Apart rd plain parts
       go true e = absurd (apart.apart j (rw (← ef) (sym ed ∙ h)) (same_key_equal _ _ e))
       go false e = refl
 
-pub parts_same : (rd : Reader) (j : ℕ) (k parts : Key) (r : Bool) → k ≡ name_parts rd j → r ≡ same_key k parts → r ≡ same_key (name_parts rd j) parts
-parts_same rd j k parts r e h = rw (← e) h
+pub parts_same : (rd : Reader) (j : ℕ) (k parts : Key) (r : Bool) → k ≡ name_parts rd j → r ≡ fields_equal k parts → r ≡ same_key (name_parts rd j) parts
+parts_same rd j k parts r e h = rw (← e) (h ∙ fields_same k parts)

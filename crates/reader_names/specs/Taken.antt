@@ -29,9 +29,6 @@ pub record Room (slots : List ℕ) (i : ℕ) : Type 0 where
   pub room : 4096 + 2 * i ≤ length slots
   pub small : i < 4294967296
 
-pub room_less : (slots after : List ℕ) (i last : ℕ) → length after ≡ length slots → i ≤ last → Room slots last → Room after i
-room_less slots after i last l h room = record { room = omega (arith, h, room.room); small = omega (arith, h, room.small) }
-
 -- the slots have symbols below i with keys, and the key of every one
 pub record Names (rd : Reader) (slots : List ℕ) (i : ℕ) : Type 0 where
   pub placed : Placed (name_key rd) slots i

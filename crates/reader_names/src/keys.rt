@@ -1,10 +1,10 @@
 // The key of a name: its name space, and its characters dealt out in turn to four numbers, mixed.
 ghost use Rattle.std.specs.Prelude.{◌≡◌, true, ◌<◌};
-ghost use Rattle.reader.specs.Words.{word};
+ghost use Rattle.reader.specs.Files.{words};
 ghost use Rattle.reader_names.specs.NameKeys.{space_key, has_room, dealt, shifted, stirred, absorbed, passed, mixed, name_parts};
 
 use crate::symbols;
-use reader::words;
+use reader::Files;
 use reader_characters::{bytes, characters};
 use reader_equality::Key;
 
@@ -95,22 +95,22 @@ pub fn mixed(k: Key) -> Key
 }
 
 // The dealt characters of symbol i. Most records name nothing, and are told at once.
-pub fn parts_of(obligation: &[u8], second: &[u8], m: usize, i: usize) -> Key
-    ensures { result ≡ name_parts (word obligation.now second.now m) i }
+pub fn parts_of(files: &Files, i: usize) -> Key
+    ensures { result ≡ name_parts (words files.now) i }
 {
-    let mut key = space_key(symbols::space_of(words::word_at(obligation, second, m, i, 0)));
-    let first = symbols::name_of(obligation, second, m, i);
+    let mut key = space_key(symbols::space_of(files.word_at(i, 0)));
+    let first = symbols::name_of(files, i);
     if first == 0 {
         return space_key(0);
     }
-    let before = bytes::start(obligation, second, m, first);
-    let mut s = characters::next_character(obligation, second, m, before);
+    let before = bytes::start(files, first);
+    let mut s = characters::next_character(files, before);
     while s.more {
         if !has_room(key, s.value) {
             return space_key(0);
         }
         key = dealt(key, s.value);
-        s = characters::next_character(obligation, second, m, s);
+        s = characters::next_character(files, s);
     }
     if key.third == 0 {
         return space_key(0);

@@ -1,12 +1,12 @@
 // Names whose bytes are plain, below 128: each byte is a character, so that such a name is told from others by the bytes of its records.
 ghost use Rattle.std.specs.Prelude.{◌≡◌, eqb};
-ghost use Rattle.reader.specs.Words.{word};
+ghost use Rattle.reader.specs.Files.{words};
 ghost use Rattle.reader.specs.Tests.{both, if_lt};
 ghost use Rattle.reader.specs.Chains.{linked};
 ghost use Rattle.reader_names.specs.Plain.{is_plain_word, is_plain, plain_name, records_differ};
 
 use crate::symbols;
-use reader_view::{Record, views};
+use reader::{Files, Record};
 
 // Are the four bytes of a word plain?
 fn is_plain_word(w: usize) -> bool
@@ -45,12 +45,12 @@ fn after(x: Record, r: usize) -> usize
 }
 
 // Are the bytes of the name whose first record is `first` plain?
-fn is_plain(obligation: &[u8], second: &[u8], m: usize, first: usize) -> bool
-    ensures { result ≡ is_plain (word obligation.now second.now m) first }
+fn is_plain(files: &Files, first: usize) -> bool
+    ensures { result ≡ is_plain (words files.now) first }
 {
     let mut r = first;
     while r != 0 {
-        let x = views::record_of(obligation, second, m, r);
+        let x = files.record_at(r);
         if !is_plain_record(x) {
             return false;
         }
@@ -60,36 +60,23 @@ fn is_plain(obligation: &[u8], second: &[u8], m: usize, first: usize) -> bool
 }
 
 // The first record of symbol i's name, where its bytes are plain; else 0.
-pub fn plain_name(obligation: &[u8], second: &[u8], m: usize, i: usize) -> usize
-    ensures { result ≡ plain_name (word obligation.now second.now m) i }
+pub fn plain_name(files: &Files, i: usize) -> usize
+    ensures { result ≡ plain_name (words files.now) i }
 {
-    let first = symbols::name_of(obligation, second, m, i);
-    if is_plain(obligation, second, m, first) {
-        first
-    } else {
-        0
-    }
+    let first = symbols::name_of(files, i);
+    if is_plain(files, first) { first } else { 0 }
 }
 
 // Have two name records the same bytes?
 fn same_bytes(x: Record, y: Record) -> bool
     ensures { result ≡ both (eqb x.a y.a) (eqb x.b y.b) }
 {
-    if x.a != y.a {
-        return false;
-    }
-    x.b == y.b
+    x.a == y.a && x.b == y.b
 }
 
 // Do the names whose first records are `first` and `other` differ in a record? Not where one ends before.
-pub fn records_differ(
-    obligation: &[u8],
-    second: &[u8],
-    m: usize,
-    first: usize,
-    other: usize,
-) -> bool
-    ensures { result ≡ records_differ (word obligation.now second.now m) (linked (word obligation.now second.now m) first) (linked (word obligation.now second.now m) other) }
+pub fn records_differ(files: &Files, first: usize, other: usize) -> bool
+    ensures { result ≡ records_differ (words files.now) (linked (words files.now) first) (linked (words files.now) other) }
 {
     let mut r = first;
     let mut s = other;
@@ -97,8 +84,8 @@ pub fn records_differ(
         if s == 0 {
             return false;
         }
-        let x = views::record_of(obligation, second, m, r);
-        let y = views::record_of(obligation, second, m, s);
+        let x = files.record_at(r);
+        let y = files.record_at(s);
         if !same_bytes(x, y) {
             return true;
         }

@@ -1,41 +1,41 @@
 // Symbols: what they name, and in which name space.
 ghost use Rattle.std.specs.Prelude.{◌≡◌};
-ghost use Rattle.reader.specs.Words.{word};
+ghost use Rattle.reader.specs.Files.{words};
 ghost use Rattle.reader.specs.Names.{name_of, name_space};
-ghost use Rattle.reader_view.specs.Records.{RecordIs};
+ghost use Rattle.reader.specs.Fetched.{RecordIs};
 
-use reader::words;
-use reader_view::Record;
+use reader::kinds::Kind;
+use reader::{Files, Record};
 
 // The name record that symbol i names; 0 for a record that is no symbol.
-pub fn name_of(obligation: &[u8], second: &[u8], m: usize, i: usize) -> usize
-    ensures { result ≡ name_of (word obligation.now second.now m) i }
+pub fn name_of(files: &Files, i: usize) -> usize
+    ensures { result ≡ name_of (words files.now) i }
 {
-    let k = words::word_at(obligation, second, m, i, 0);
-    if k == 3 {
-        return words::word_at(obligation, second, m, i, 1);
+    let k = files.word_at(i, 0);
+    if k == Kind::GivenType as usize {
+        return files.word_at(i, 1);
     }
-    if k == 7 {
-        return words::word_at(obligation, second, m, i, 2);
+    if k == Kind::Constant as usize {
+        return files.word_at(i, 2);
     }
-    if k == 8 {
-        return words::word_at(obligation, second, m, i, 3);
+    if k == Kind::Function as usize {
+        return files.word_at(i, 3);
     }
     0
 }
 
 // The same of record i, whose words are x.
-pub fn name_in(obligation: &[u8], second: &[u8], m: usize, i: usize, x: Record) -> usize
-    requires { RecordIs (word obligation.now second.now m) i x }
-    ensures { result ≡ name_of (word obligation.now second.now m) i }
+pub fn name_in(files: &Files, i: usize, x: Record) -> usize
+    requires { RecordIs (words files.now) i x }
+    ensures { result ≡ name_of (words files.now) i }
 {
-    if x.kind == 3 {
+    if x.kind == Kind::GivenType as usize {
         return x.a;
     }
-    if x.kind == 7 {
+    if x.kind == Kind::Constant as usize {
         return x.b;
     }
-    if x.kind == 8 {
+    if x.kind == Kind::Function as usize {
         return x.c;
     }
     0
@@ -45,13 +45,13 @@ pub fn name_in(obligation: &[u8], second: &[u8], m: usize, i: usize, x: Record) 
 pub fn space_of(k: usize) -> usize
     ensures { result ≡ name_space k }
 {
-    if k == 3 {
+    if k == Kind::GivenType as usize {
         return 1;
     }
-    if k == 7 {
+    if k == Kind::Constant as usize {
         return 2;
     }
-    if k == 8 {
+    if k == Kind::Function as usize {
         return 2;
     }
     0

@@ -1,6 +1,6 @@
 -- The counts of all premise chains, and the first rule node that is not named exactly once.
 use Prim.Native.Nat.{ℕ, ◌+◌, ◌-◌, ◌<◌, ◌≤◌, min}
-use Rattle.std.specs.Prelude.{◌≡◌, refl, List, Bool, true, false, not, eqb, ltb, length, get_or}
+use Rattle.std.specs.Prelude.{◌≡◌, refl, List, Bool, true, false, not, eqb, ltb, length, get_or, replicate}
 use Rattle.std.proofs.Common.{sym, ◌∙◌, arith, add-one}
 use Rattle.std.proofs.Math.Path.{ap}
 use Rattle.std.proofs.Math.ListN.{get_or-eq_default}
@@ -14,7 +14,7 @@ use Rattle.reader.specs.Chains.{premises}
 use Rattle.reader.specs.Answers.{first_fault}
 use Rattle.reader.specs.AnswerLaws.{scan_same}
 use Rattle.reader.specs.Places.{times_in, namings, naming_fault}
-use Rattle.reader_equality.specs.Tables.{ZerosBelow, zeros_all}
+use Rattle.reader_equality.specs.Tables.{zeros_made}
 use Rattle.reader_naming.specs.Counts.{times, bumped, bumped_same, bumped_other, Settled, Added}
 
 -- how often record j's premise chain names r, where j is a rule node
@@ -46,17 +46,20 @@ pub total_none : (mode : ℕ) (rd : Reader) (named passed : List ℕ) → Settle
 unfolding namings
 total_none mode rd named passed s = record { totals = λ r. omega (arith, s.small r) }
 
-pub total_more : (mode : ℕ) (rd : Reader) (j : ℕ) (start named after : List ℕ) → Total mode rd j start named → Counted mode rd (j + 1) named after → Total mode rd (j + 1) start after
+pub total_more : (mode : ℕ) (rd : Reader) (j : ℕ) (start named after : List ℕ) → 1 ≤ j → Total mode rd (j - 1) start named → Counted mode rd j named after →
+    Total mode rd (j + 1 - 1) start after
 unfolding namings names_of
-total_more mode rd j start named after t c = record { totals = λ r. go r }
+total_more mode rd j start named after h t c = record { totals = λ r. go r }
   where
-    go : (r : ℕ) → get_or after r 0 ≡ min 2 (get_or start r 0 + namings mode rd r (j + 1))
+    go : (r : ℕ) → get_or after r 0 ≡ min 2 (get_or start r 0 + namings mode rd r (j + 1 - 1))
     go r =
-        let step : namings mode rd r (j + 1) ≡ names_of mode rd (j + 1) r + namings mode rd r j = rw (add-one j) refl in
-        omega (arith, c.counts r, t.totals r)
+        let step : namings mode rd r (j - 1 + 1) ≡ names_of mode rd (j - 1 + 1) r + namings mode rd r (j - 1) = rw (add-one (j - 1)) refl in
+        let here : j - 1 + 1 ≡ j = omega arith in
+        let next : j + 1 - 1 ≡ j = omega arith in
+        rw next (omega (arith, c.counts r, t.totals r, rw here at step))
 
-pub total_end : (mode : ℕ) (rd : Reader) (j last : ℕ) (start named : List ℕ) → j ≤ last → last ≤ j → Total mode rd j start named → Total mode rd last start named
-total_end mode rd j last start named h g t = let e : last ≡ j = omega arith in rw e t
+pub total_end : (mode : ℕ) (rd : Reader) (j last : ℕ) (start named : List ℕ) → j ≤ last + 1 → last + 1 ≤ j → Total mode rd (j - 1) start named → Total mode rd last start named
+total_end mode rd j last start named h g t = let e : last ≡ j - 1 = omega arith in rw e t
 
 -- the refusal of record i by its count
 unfoldable pub count_fault : ℕ → Reader → List ℕ → ℕ → ℕ
@@ -89,9 +92,9 @@ pick n e h = go (eqb n 1) refl
 pub record Cleared (table : List ℕ) : Type 0 where
   pub zeros : (r : ℕ) → get_or table r 0 ≡ 0
 
--- the end of `clear`
-pub cleared_all : (table : List ℕ) (k : ℕ) → length table ≤ k → ZerosBelow table k → Cleared table
-cleared_all table k h z = record { zeros = (zeros_all table k h z).zeros }
+-- a table that is filled with 0
+pub cleared_fill : (n : ℕ) (table : List ℕ) → table ≡ replicate n 0 → Cleared table
+cleared_fill n table e = record { zeros = λ r. rw e ((zeros_made n).zeros r) }
 
 -- only the root is counted, once
 pub record Rooted (root : ℕ) (table : List ℕ) : Type 0 where

@@ -14,8 +14,8 @@ use Rattle.reader.specs.Chains.{linked, items}
 use Rattle.reader.specs.TreeLaws.{items_zero, items_step}
 use Rattle.reader.specs.ChainLaws.{linked_length, linked_none}
 use Rattle.reader.specs.Records.{in_range, range_at, Reference, any_record, references, may_be_zero, wanted_class, item_class, has_class, items_have_class}
-use Rattle.reader_view.specs.declared.Record.{Record}
-use Rattle.reader_view.specs.Records.{RecordIs}
+use Rattle.reader.specs.declared.Record.{Record}
+use Rattle.reader.specs.Fetched.{RecordIs}
 use Rattle.reader.specs.Records.{kind_fits, types_fit, arguments_fit, item_chains_fit}
 
 -- What a number packs, a hexadecimal digit each: whether the reference may be 0, and the class of the record.

@@ -4,8 +4,8 @@ use Rattle.reader.specs.Words.{Reader}
 use Rattle.reader.specs.Tests.{if_eq}
 use Rattle.reader.specs.Kinds.{layout, role, class_at, role_at}
 use Rattle.reader.specs.KindLaws.{unpacked, class_in, first_in, second_in, third_in}
-use Rattle.reader_view.specs.declared.Record.{Record}
-use Rattle.reader_view.specs.Records.{RecordIs}
+use Rattle.reader.specs.declared.Record.{Record}
+use Rattle.reader.specs.Fetched.{RecordIs}
 
 -- record i has the words x, and its kind this row
 module _ (rd : Reader) (i : ℕ) (x : Record) (e : RecordIs rd i x) (row q : ℕ) (er : unpacked row ≡ layout x.kind) where

@@ -1,26 +1,14 @@
 // A search tree of records for each bucket of keys, in one lent table of slots. However many keys share a bucket, a search takes no more turns than
 // the parts of a key have bits: each turn goes left or right by another bit.
 ghost use Rattle.std.specs.Prelude.{◌≡◌, ◌+◌, ◌*◌, ◌<◌, ◌≤◌, length, get_or};
-ghost use Rattle.reader.specs.Words.{word};
-ghost use Rattle.reader_view.specs.Records.{RecordIs};
+ghost use Rattle.reader.specs.Files.{words};
+ghost use Rattle.reader.specs.Fetched.{RecordIs};
 ghost use Rattle.reader_equality.specs.Keys.{key_from};
 ghost use Rattle.reader_equality.specs.Shapes.{shape_of};
-ghost use Rattle.reader_equality.specs.Tables.{Zeros};
 ghost use Rattle.reader_slots.specs.Slots.{under, Placed, Ended, Put};
 
+use reader::{Files, Record};
 use reader_equality::{Key, keys, shapes};
-use reader_view::{Record, views};
-
-// Makes every slot free.
-pub fn clear(slots: &mut [u32])
-    ensures { Zeros slots.new }
-{
-    let mut k: usize = 0;
-    while k < slots.len() {
-        slots[k] = 0;
-        k += 1;
-    }
-}
 
 // The record in slot k, 0 for none.
 pub fn record_in(slots: &[u32], k: usize) -> usize
@@ -41,9 +29,7 @@ pub fn slot_under(j: usize, k: Key) -> usize
 // The slot at which the search for a key among the records below i ends: one that has a record with that key, or a free one. The table has the
 // parts of those records.
 fn slot_of(
-    obligation: &[u8],
-    second: &[u8],
-    m: usize,
+    files: &Files,
     types: bool,
     table: &[usize],
     slots: &[u32],
@@ -51,14 +37,14 @@ fn slot_of(
     shape: u32,
     key: Key,
 ) -> usize
-    requires { (shape ≡ shape_of key.kind) × (i ≤ length table.now) × (4096 + 2 * i ≤ length slots.now) × Placed (key_from (word obligation.now second.now m) types table.now) slots.now i }
-    ensures { Ended (key_from (word obligation.now second.now m) types table.now) slots.now key i result }
+    requires { (shape ≡ shape_of key.kind) × (i ≤ length table.now) × (4096 + 2 * i ≤ length slots.now) × Placed (key_from (words files.now) types table.now) slots.now i }
+    ensures { Ended (key_from (words files.now) types table.now) slots.now key i result }
 {
     let mut slot = keys::bucket_of(key);
     let mut rest = key;
     let mut j = record_in(slots, slot);
     while j != 0 {
-        let x = views::record_of(obligation, second, m, j);
+        let x = files.record_at(j);
         if keys::has_key(types, table, shape, j, x, key) {
             return slot;
         }
@@ -71,21 +57,19 @@ fn slot_of(
 
 // The record with the key of record i, whose words are x, that is in the slots; where there is none, i is put in.
 pub fn place(
-    obligation: &[u8],
-    second: &[u8],
-    m: usize,
+    files: &Files,
     types: bool,
     table: &[usize],
     slots: &mut [u32],
     i: usize,
     x: Record,
 ) -> usize
-    requires { (0 < i) × (i < 4294967296) × (i ≤ length table.now) × (4096 + 2 * i ≤ length slots.old) × Placed (key_from (word obligation.now second.now m) types table.now) slots.old i × RecordIs (word obligation.now second.now m) i x }
-    ensures { Put (key_from (word obligation.now second.now m) types table.now) slots.old i result slots.new }
+    requires { (0 < i) × (i < 4294967296) × (i ≤ length table.now) × (4096 + 2 * i ≤ length slots.old) × Placed (key_from (words files.now) types table.now) slots.old i × RecordIs (words files.now) i x }
+    ensures { Put (key_from (words files.now) types table.now) slots.old i result slots.new }
 {
     let shape = shapes::shape_of(x.kind);
     let key = keys::key_in(types, table, shape, i, x);
-    let slot = slot_of(obligation, second, m, types, table, slots, i, shape, key);
+    let slot = slot_of(files, types, table, slots, i, shape, key);
     let j = record_in(slots, slot);
     if j != 0 {
         return j;

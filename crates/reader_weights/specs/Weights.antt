@@ -15,8 +15,8 @@ use Rattle.reader.specs.Records.{most_weight, weight_fits}
 use Rattle.reader.specs.Answers.{answer, first_fault}
 use Rattle.reader.specs.AnswerLaws.{scan_stop}
 use Rattle.reader.specs.TreeLaws.{tree_zero, tree_step_lem}
-use Rattle.reader_view.specs.declared.Record.{Record}
-use Rattle.reader_view.specs.Records.{RecordIs}
+use Rattle.reader.specs.declared.Record.{Record}
+use Rattle.reader.specs.Fetched.{RecordIs}
 use Rattle.reader_references.specs.Rows.{class_is, role_first, role_second, role_third}
 
 -- a weight as the table holds it

@@ -1,6 +1,7 @@
 -- The ways out of the translation: the proof check refuses, the buffer is too short, the derivation is written.
 use Prim.Native.Nat.{ℕ, ◌+◌, ◌*◌, ◌<◌, ◌≤◌}
-use Rattle.std.specs.Prelude.{◌≡◌}
+use Rattle.std.specs.Prelude.{◌≡◌, Result, Err, IsErrAnd}
+use Rattle.std.proofs.lemmas.Result.{err_from_is_err_and}
 use Rattle.std.proofs.Math.Path.{refl, sym, ap}
 use Rattle.std.proofs.Common.{◌∙◌}
 use mathlib.Core.List.{List, ◌++◌}
@@ -9,6 +10,9 @@ use Rattle.std.proofs.Math.Seq.{take_at, drop-append_seam}
 use native.Mathlib.Omega.{arith}
 use borrow.Author.Tests.{eq-eqb, ne_eqb, lt-ltb, le-ltb}
 use Rattle.reader.specs.declared.Answer.{Answer}
+use Rattle.reader.specs.declared.Refusal.{Refusal}
+use Rattle.reader.specs.Refusals.{answer_of}
+use Rattle.reader.specs.RefusalLaws.{number_some}
 use Rattle.reader.specs.Words.{word_of}
 use Rattle.reader.specs.Tests.{if_lt}
 use Rattle.reader.specs.Answers.{answer, accepted}
@@ -27,6 +31,8 @@ use Rattle.translation_meaning.specs.Accepted.{obligation_few, proof_few, long, 
 use Rattle.translation_meaning.specs.Theorems.{translation_accepted}
 use Rattle.translation_write.specs.Put.{put}
 use Rattle.translation_file.specs.Derivation.{Ready}
+use Rattle.translation.specs.declared.Translation.{Translation}
+use Rattle.translation.specs.Numbers.{answer_in, length_in}
 
 module _ (ob pf before : List ℕ) (a : Answer) (ea : a ≡ proof_answer ob pf) where
   -- the proof check's refusal
@@ -34,7 +40,7 @@ module _ (ob pf before : List ℕ) (a : Answer) (ea : a ≡ proof_answer ob pf) 
   unfolding translation_answer and_then
   refused_answer h = simp (translation_answer, and_then, ← ea, ne_eqb a.refusal 0 h)
 
-  pub refused_translates : (a.refusal ≡ 0 → ⊥) → Translates ob pf before before a 0
+  refused_translates : (a.refusal ≡ 0 → ⊥) → Translates ob pf before before a 0
   refused_translates h = record {
     answers = refused_answer h;
     refused = λ no. (refl, refl);
@@ -104,3 +110,10 @@ module _ (ob pf before : List ℕ) (a : Answer) (ea : a ≡ proof_answer ob pf) 
           root = (range ob pf k e (root_of pf) (root_rule ob pf k e)).1;
           room = omega (arith, en);
         }
+
+-- the proof check's refusal e, returned as it is
+pub err_translates : (ob pf before : List ℕ) (e : Refusal) (r : Result Translation Refusal) → answer_of (Err e) ≡ proof_answer ob pf
+    → IsErrAnd r (λ x. x ≡ e) → Translates ob pf before before (answer_in r) (length_in r)
+err_translates ob pf before e r h same =
+    let p = err_from_is_err_and r same in
+    rw (p.1, p.2) (refused_translates ob pf before (answer_of (Err e)) h (number_some e.fault))

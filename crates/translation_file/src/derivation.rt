@@ -1,5 +1,6 @@
 // The whole derivation.
 ghost use Rattle.std.specs.Prelude.{◌≡◌, ◌+◌, ◌*◌, ◌<◌, ◌≤◌, length};
+ghost use Rattle.reader.specs.Files.{words};
 ghost use Rattle.reader.specs.Words.{word};
 ghost use Rattle.reader.specs.Places.{count_of, root_of};
 ghost use Rattle.translation_rules.specs.Output.{start_of, written};
@@ -9,7 +10,7 @@ ghost use Rattle.translation_write.specs.Put.{put};
 ghost use Rattle.translation_write.specs.Nodes.{Room};
 ghost use Rattle.translation_file.specs.Derivation.{Ready, start_bytes, file_bytes};
 
-use reader::words;
+use reader::{Files, words};
 use translation_values::{ends, values};
 use translation_write::{blocks, copies, records};
 
@@ -26,24 +27,16 @@ fn put_start(buffer: &mut [u8], r: usize, base: usize, root: usize, end: usize)
 }
 
 // Header, copies, blocks and the start's block, which starts at record `start`.
-fn put_file(
-    obligation: &[u8],
-    proof: &[u8],
-    m: usize,
-    n: usize,
-    ends: &[usize],
-    start: usize,
-    buffer: &mut [u8],
-)
-    requires { Room (word obligation.now proof.now m) m n buffer.old × (16 * (1 + n) ≤ length proof.now) × Ends (word obligation.now proof.now m) m n ends.now (m + n + 1) × (root_of proof.now ≤ m + n) × (start ≡ start_of (word obligation.now proof.now m) m n) }
-    ensures { buffer.new ≡ put buffer.old 0 (file_bytes (word obligation.now proof.now m) proof.now m n) }
+fn put_file(files: &Files, n: usize, ends: &[usize], start: usize, buffer: &mut [u8])
+    requires { Room (words files.now) files.now.m n buffer.old × (16 * (1 + n) ≤ length files.now.second.now) × Ends (words files.now) files.now.m n ends.now (files.now.m + n + 1) × (root_of files.now.second.now ≤ files.now.m + n) × (start ≡ start_of (words files.now) files.now.m n) }
+    ensures { buffer.new ≡ put buffer.old 0 (file_bytes (words files.now) files.now.second.now files.now.m n) }
 {
-    records::put_record(buffer, 0, 1, start + 4 - m, start + 4, m);
-    copies::put_copies(obligation, proof, m, n, buffer);
-    blocks::put_blocks(obligation, proof, m, n, ends, buffer);
-    let root = words::word_of(proof, 0, 2);
+    records::put_record(buffer, 0, 1, start + 4 - files.m, start + 4, files.m);
+    copies::put_copies(files, n, buffer);
+    blocks::put_blocks(files, n, ends, buffer);
+    let root = words::word_of(files.second, 0, 2);
     let end = values::entry_at(ends, root);
-    put_start(buffer, start - m, start, root, end);
+    put_start(buffer, start - files.m, start, root, end);
 }
 
 // The derivation that an accepted proof of the obligation becomes. Returns its length in bytes; what lies past it in the buffer stays.
@@ -53,9 +46,10 @@ pub fn put_derivation(obligation: &[u8], proof: &[u8], buffer: &mut [u8]) -> usi
     ensures buffer_after { buffer.new ≡ put buffer.old 0 (derivation_bytes obligation.now proof.now) }
 {
     let m = words::word_of(obligation, 0, 1);
+    let files = Files::new(obligation, proof, m);
     let n = words::word_of(proof, 0, 1);
     let mut ends = [0usize; 4096];
-    let start = ends::fill_ends(obligation, proof, m, n, &mut ends);
-    put_file(obligation, proof, m, n, &ends, start, buffer);
+    let start = ends::fill_ends(&files, n, &mut ends);
+    put_file(&files, n, &ends, start, buffer);
     16 * (start + 5 - m)
 }

@@ -1,13 +1,12 @@
 // What the cells of a template stand for at a node.
 ghost use Rattle.std.specs.Prelude.{◌≡◌, List, ℕ, ◌+◌, ◌<◌, ◌≤◌, get_or};
-ghost use Rattle.reader.specs.Words.{word};
+ghost use Rattle.reader.specs.Files.{words};
 ghost use Rattle.reader.specs.Chains.{parts, premises};
 ghost use Rattle.translation_rules.specs.Output.{type_record};
 ghost use Rattle.translation_values.specs.Values.{value_in};
 
-use reader::{trees, words};
+use reader::Files;
 use reader_chains::chains;
-use reader_view::views;
 
 // The block of a node, by its first record's number.
 #[derive(Clone, Copy)]
@@ -17,19 +16,19 @@ pub struct Block {
 }
 
 // The record of part j of a node, 0 where it has none.
-fn part_at(obligation: &[u8], proof: &[u8], m: usize, node: usize, j: usize) -> usize
-    ensures { result ≡ get_or (parts (word obligation.now proof.now m) node) j 0 }
+fn part_at(files: &Files, node: usize, j: usize) -> usize
+    ensures { result ≡ get_or (parts (words files.now) node) j 0 }
 {
-    let chain = trees::lower_at(obligation, proof, m, node, 1);
-    chains::item_at(obligation, proof, m, chain, j)
+    let chain = files.lower_at(node, 1);
+    chains::item_at(files, chain, j)
 }
 
 // The node of premise j, 0 where there is none.
-fn premise_at(obligation: &[u8], proof: &[u8], m: usize, node: usize, j: usize) -> usize
-    ensures { result ≡ get_or (premises (word obligation.now proof.now m) node) j 0 }
+fn premise_at(files: &Files, node: usize, j: usize) -> usize
+    ensures { result ≡ get_or (premises (words files.now) node) j 0 }
 {
-    let chain = trees::lower_at(obligation, proof, m, node, 2);
-    chains::item_at(obligation, proof, m, chain, j)
+    let chain = files.lower_at(node, 2);
+    chains::item_at(files, chain, j)
 }
 
 // Entry x of a table, 0 past its end.
@@ -39,65 +38,58 @@ pub fn entry_at(table: &[usize], x: usize) -> usize
     if x < table.len() { table[x] } else { 0 }
 }
 
-// The record of the type of the term at record x.
-fn type_at(obligation: &[u8], proof: &[u8], m: usize, x: usize) -> usize
-    ensures { result ≡ type_record (word obligation.now proof.now m) x }
+// The record of the type of the term at record x. No plainer with `Kind`: as in `reader_types`.
+fn type_at(files: &Files, x: usize) -> usize
+    ensures { result ≡ type_record (words files.now) x }
 {
-    let record = views::record_of(obligation, proof, m, x);
+    let record = files.record_at(x);
     let kind = record.kind;
     match kind {
-        7 => record.a,
-        9 => record.b,
-        10 => record.c,
-        11 => record.c,
-        12 => record.b,
-        23 => record.b,
-        _ => words::word_at(obligation, proof, m, record.b, 1),
+        7 => record.a, // constant
+        9 => record.b, // bound variable
+        10 => record.c, // pair
+        11 => record.c, // product
+        12 => record.b, // powerset
+        23 => record.b, // choice
+        _ => files.word_at(record.b, 1), // application: the first of its types
     }
 }
 
 // The value of a cell that looks into part 0, or of the node itself.
-fn inner_value(obligation: &[u8], proof: &[u8], m: usize, node: usize, code: usize) -> usize
+fn inner_value(files: &Files, node: usize, code: usize) -> usize
     requires { (32 ≤ code) × (code < 96) }
-    ensures { (table : List ℕ) (base : ℕ) → result ≡ value_in (word obligation.now proof.now m) table node base code }
+    ensures { (table : List ℕ) (base : ℕ) → result ≡ value_in (words files.now) table node base code }
 {
     if 80 <= code {
         return node;
     }
-    let part = part_at(obligation, proof, m, node, 0);
+    let part = part_at(files, node, 0);
     if code < 48 {
-        return words::word_at(obligation, proof, m, part, (code - 32) as u8);
+        return files.word_at(part, (code - 32) as u8);
     }
-    let inside = words::word_at(obligation, proof, m, part, 1);
+    let inside = files.word_at(part, 1);
     if code < 64 {
-        return words::word_at(obligation, proof, m, inside, 1);
+        return files.word_at(inside, 1);
     }
-    type_at(obligation, proof, m, inside)
+    type_at(files, inside)
 }
 
 // The value of the cell of a line with byte `code`. `ends` has the concluding node of each record's block.
-pub fn value_of(
-    obligation: &[u8],
-    proof: &[u8],
-    m: usize,
-    ends: &[usize],
-    block: Block,
-    code: usize,
-) -> usize
+pub fn value_of(files: &Files, ends: &[usize], block: Block, code: usize) -> usize
     requires { block.base + code < 18446744073709551616 }
-    ensures { result ≡ value_in (word obligation.now proof.now m) ends.now block.node block.base code }
+    ensures { result ≡ value_in (words files.now) ends.now block.node block.base code }
 {
     if code < 16 {
         return 0;
     }
     if code < 32 {
-        return part_at(obligation, proof, m, block.node, code - 16);
+        return part_at(files, block.node, code - 16);
     }
     if code < 96 {
-        return inner_value(obligation, proof, m, block.node, code);
+        return inner_value(files, block.node, code);
     }
     if code < 128 {
-        let premise = premise_at(obligation, proof, m, block.node, code - 96);
+        let premise = premise_at(files, block.node, code - 96);
         return entry_at(ends, premise);
     }
     block.base + (code - 128)

@@ -45,22 +45,12 @@ stored16 r k a b c l0 l1 l2 l3 l4 h e1 e2 e3 e4 =
     e3 ∙ rw p2 (put_put l0 (16 * r) (bytes4 k ++ bytes4 a) (bytes4 b) (16 * r + 8) refl (omega arith)) in
     e4 ∙ rw p3 (put_put l0 (16 * r) (bytes4 k ++ (bytes4 a ++ bytes4 b)) (bytes4 c) (16 * r + 12) refl (omega arith))
 
--- The loop of `copy_record`: k bytes of s are copied.
-copied_is : (l s : List ℕ) (at k : ℕ) → k ≤ length s → put l at (take k s) ≡ paste l at s k
+-- The way out of `copy_record`: as many bytes of the file in their place.
+pub copied : (old file : List ℕ) (r n : ℕ) → n ≡ 16 → 16 * r + 16 ≤ length file →
+    take (16 * r) old ++ (take n (drop (16 * r) file) ++ drop n (drop (16 * r) old)) ≡ put old (16 * r) (take 16 (drop (16 * r) file))
 unfolding put
-copied_is l s at k h = let e : length (take k s) ≡ k = length-take-le k s h in rw e
-
-module _ (old file : List ℕ) (r : ℕ) where
-  pub copy_none : old ≡ put old (16 * r) (take 0 (drop (16 * r) file))
-  copy_none = put_nothing old (16 * r)
-
-  pub copy_more : (k : ℕ) (l : List ℕ) → 16 * r + k < length file → 16 * r + k < length old → l ≡ put old (16 * r) (take k (drop (16 * r) file)) →
-      set l (16 * r + k) (get_or file (16 * r + k) 0) ≡ put old (16 * r) (take (k + 1) (drop (16 * r) file))
-  copy_more k l p q e =
-      let left : k < length (drop (16 * r) file) = omega (arith, length-drop (16 * r) file) in
-      let now : l ≡ paste old (16 * r) (drop (16 * r) file) k = e ∙ copied_is old (drop (16 * r) file) (16 * r) k (omega arith) in
-      rw (now, ← get_or-drop (16 * r) file k 0, add-one k)
-      (paste-suc old (16 * r) (drop (16 * r) file) k 0 q left ∙ sym (copied_is old (drop (16 * r) file) (16 * r) (suc k) left))
-
-  pub copy_end : (k : ℕ) (l : List ℕ) → k ≤ 16 → 16 ≤ k → l ≡ put old (16 * r) (take k (drop (16 * r) file)) → l ≡ put old (16 * r) (take 16 (drop (16 * r) file))
-  copy_end k l p q e = let same : k ≡ 16 = omega arith in e ∙ ap (λ (x : ℕ). put old (16 * r) (take x (drop (16 * r) file))) same
+copied old file r n e h =
+    let vs : List ℕ = take 16 (drop (16 * r) file) in
+    let long : length vs ≡ 16 = length-take-le 16 (drop (16 * r) file) (omega (arith, length-drop (16 * r) file)) in
+    let rest : drop 16 (drop (16 * r) old) ≡ drop (16 * r + 16) old = drop-drop 16 (16 * r) old in
+    rw (e, rest, long) (sym (append_assoc (take (16 * r) old) vs (drop (16 * r + 16) old)))

@@ -31,9 +31,6 @@ pub fn copy_record(file: &[u8], buffer: &mut [u8], r: usize)
     requires { (16 * r + 16 ≤ length file.now) × (16 * r + 16 ≤ length buffer.old) }
     ensures { buffer.new ≡ put buffer.old (16 * r) (take 16 (drop (16 * r) file.now)) }
 {
-    let mut k = 0;
-    while k < 16 {
-        buffer[16 * r + k] = file[16 * r + k];
-        k += 1;
-    }
+    let at = 16 * r;
+    buffer[at..at + 16].copy_from_slice(&file[at..at + 16]);
 }

@@ -5,7 +5,7 @@ ghost use Rattle.tree_rules.specs.Listing.{listing};
 use crate::nodes;
 use programs_text::text;
 use proof_check::check;
-use reader::words;
+use reader::{Answer, Files, words};
 use tree_lines::lines;
 
 // Writes the listing to the area's start; its length. A line of four numbers has at most 84 bytes, and there are at most 3,072 nodes: with the first line and
@@ -13,10 +13,12 @@ use tree_lines::lines;
 pub fn put_listing(obligation: &[u8], proof: &[u8], area: &mut [u8; 258147]) -> usize
     ensures { Appended area.old 0 (listing obligation.now proof.now) area.new result }
 {
-    let a = check::check_proof(obligation, proof);
+    let checked = check::check_proof(obligation, proof);
+    let entered = Answer::of(checked).nodes;
     let m = words::word_of(obligation, 0, 1);
+    let files = Files::new(obligation, proof, m);
     let root = words::word_of(proof, 0, 2);
     let first = text::append(area, 0, b"tree 1\n");
-    let nodes = nodes::list_node(obligation, proof, m, area, first, a.nodes, 0, root);
-    lines::append_ending(area, nodes.end, a)
+    let nodes = nodes::list_node(&files, area, first, entered, 0, root);
+    lines::append_ending(area, nodes.end, checked)
 }

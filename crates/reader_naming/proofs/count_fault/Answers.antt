@@ -4,8 +4,8 @@ use Rattle.reader_naming.proofs.count_fault.Goals as goal
 pub returns-then-not-is_rule : goal.returns-then-not-is_rule
 returns-then-not-is_rule c = search count_other
 
-pub returns-then-entry-eq1 : goal.returns-then-entry-eq1
-returns-then-entry-eq1 c = search count_one
+pub returns-then-count-eq1 : goal.returns-then-count-eq1
+returns-then-count-eq1 c = search count_one
 
-pub returns-else-entry-eq1 : goal.returns-else-entry-eq1
-returns-else-entry-eq1 c = search count_wrong
+pub returns-else-count-eq1 : goal.returns-else-count-eq1
+returns-else-count-eq1 c = search count_wrong

@@ -1,14 +1,11 @@
 use Prim.Native.Nat.{◌+◌, ◌-◌}
 use mathlib.Core.Path.{◌≡◌}
-use Rattle.reader.specs.Words.{word}
+use Rattle.reader.specs.Files.{words}
 use Rattle.reader.specs.Answers.{first_fault}
 use Rattle.reader_naming.specs.Totals.{count_fault}
 use Rattle.reader_naming.proofs.first_miscounted.Given as goal
 
 abbrev pub invariant-loop-i : goal.invariant-loop-i
 invariant-loop-i l =
-    first_fault (count_fault l.mode (word l.obligation l.second l.m) l.named) 2 (l.last + 1 - l.first) l.first
-    ≡ first_fault (count_fault l.mode (word l.obligation l.second l.m) l.named) 2 (l.last + 1 - l.i) l.i
-
-abbrev pub decreases-loop-i : goal.decreases-loop-i
-decreases-loop-i l = l.last + 1 - l.i
+    first_fault (count_fault l.mode (words l.files) l.named) 2 (l.last + 1 - l.first) l.first
+    ≡ first_fault (count_fault l.mode (words l.files) l.named) 2 (l.last + 1 - l.i) l.i

@@ -27,13 +27,11 @@ overflow_mul-result c = omega (arith, order_limit _ _ c.order_of-order.ensures)
 
 pub overflow_add-result : goal.overflow_add-result
 overflow_add-result c =
-    let a = c.before.before.before.before.before.before.before.before.before.before.before in
-    omega (arith, reach_low _ _ a.requires.1 a.args.i c.node_reach-r.result a.requires.0 c.node_reach-r.ensures, order_limit _ _ c.order_of-order.ensures)
+    let p = c.requires in omega (arith, reach_low _ _ p.1 c.args.i c.node_reach-r.result p.0 c.node_reach-r.ensures, order_limit _ _ c.order_of-order.ensures)
 
 pub overflow_cast-result : goal.overflow_cast-result
 overflow_cast-result c =
-    let a = c.before.before.before.before.before.before.before.before.before.before.before in
-    omega (arith, reach_low _ _ a.requires.1 a.args.i c.node_reach-r.result a.requires.0 c.node_reach-r.ensures, order_limit _ _ c.order_of-order.ensures)
+    let p = c.requires in omega (arith, reach_low _ _ p.1 c.args.i c.node_reach-r.result p.0 c.node_reach-r.ensures, order_limit _ _ c.order_of-order.ensures)
 
 pub returns : goal.returns
 returns c = let p = c.requires in entry_made _ _ p.1 _ _ _ p.0 c.node_reach-r.ensures c.order_of-order.ensures

@@ -1,8 +1,8 @@
 use Rattle.derivation_closedness.specs.Reaches.{own_other, own_index}
 use Rattle.derivation_closedness.proofs.closed.own_reach.Goals as goal
 
-pub returns-then-x-ne9 : goal.returns-then-x-ne9
-returns-then-x-ne9 c = search own_other
+pub returns-then-x : goal.returns-then-x
+returns-then-x c = search own_other
 
 pub returns : goal.returns
 returns c = search own_index

@@ -12,8 +12,8 @@ entry_order-b-requires c = search second_low
 pub entry_order-c-requires : goal.entry_order-c-requires
 entry_order-c-requires c = search third_low
 
-pub returns-then-x-eq22 : goal.returns-then-x-eq22
-returns-then-x-eq22 c = search (order_all, second_order)
+pub returns-then-x : goal.returns-then-x
+returns-then-x c = search (order_all, second_order)
 
 pub returns : goal.returns
 returns c = search (order_node, first_order, second_order, third_order)

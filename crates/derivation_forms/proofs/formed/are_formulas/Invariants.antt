@@ -1,7 +1,7 @@
 use Prim.Native.Nat.{◌<◌}
 use mathlib.Core.Path.{◌≡◌}
 use lib.ListN.{length}
-use Rattle.reader.specs.Words.{word}
+use Rattle.reader.specs.Files.{words}
 use Rattle.reader.specs.Tests.{every}
 use Rattle.derivation_frames.specs.Frames.{chain_trees}
 use Rattle.derivation_forms.specs.Formed.{is_formula}
@@ -9,7 +9,7 @@ use Rattle.derivation_forms.proofs.formed.are_formulas.Given as goal
 
 abbrev pub invariant-loop-l : goal.invariant-loop-l
 invariant-loop-l l =
-    (l.l < length l.keys) × (every is_formula (chain_trees (word l.obligation l.second l.m) l.c) ≡ every is_formula (chain_trees (word l.obligation l.second l.m) l.l))
+    (l.l < length l.keys) × (every is_formula (chain_trees (words l.files) l.c) ≡ every is_formula (chain_trees (words l.files) l.l))
 
 abbrev pub decreases-loop-l : goal.decreases-loop-l
 decreases-loop-l l = l.l

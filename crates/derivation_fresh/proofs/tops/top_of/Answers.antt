@@ -1,5 +1,4 @@
 use borrow.Author.Rules.{rules}
-use native.Mathlib.Omega.{arith}
 use Rattle.derivation_members.specs.Members.{start_in, chain_below, frame_next}
 use Rattle.derivation_fresh.specs.Tops.{rising_start, rising_more, rising_end}
 use Rattle.derivation_fresh.proofs.tops.top_of.Goals as goal
@@ -11,19 +10,13 @@ pub chain_top-a-requires : goal.chain_top-a-requires
 chain_top-a-requires c = (search rules, search chain_below, search rules)
 
 pub loop-f-init : goal.loop-f-init
-loop-f-init c = (search rules, search rising_start)
+loop-f-init c = search rising_start
 
 pub entry_at-e-requires : goal.entry_at-e-requires
 entry_at-e-requires c = search frame_next
 
-pub overflow_add-f-in-loop-f : goal.overflow_add-f-in-loop-f
-overflow_add-f-in-loop-f c = omega (arith, c.loop-f-test.true, c.requires.1.deep)
-
-pub loop-f-smaller : goal.loop-f-smaller
-loop-f-smaller c = omega arith
-
 pub loop-f-preserved : goal.loop-f-preserved
-loop-f-preserved c = (omega arith, search rising_more)
+loop-f-preserved c = search rising_more
 
 pub returns : goal.returns
 returns c = (search rising_end, search rules)

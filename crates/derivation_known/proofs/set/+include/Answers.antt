@@ -43,4 +43,4 @@ returns-then-not-include-3 t c =
 
 pub returns : goal.returns
 returns t c =
-    includes_all _ _ _ _ _ _ _ _ c.record_of-x.ensures _ c.parts_in-parts.ensures _ c.include.ensures (ap not c.if-not-include.false) _ c.include-2.ensures (ap not c.if-not-include-2.false) _ c.include-3.ensures (ap not c.if-not-include-3.false) c.put-2.ensures _ c.is_held-2.ensures
+    includes_all _ _ _ _ _ _ _ _ c.record_at-x.ensures _ c.parts_in-parts.ensures _ c.include.ensures (ap not c.if-not-include.false) _ c.include-2.ensures (ap not c.if-not-include-2.false) _ c.include-3.ensures (ap not c.if-not-include-3.false) c.put-2.ensures _ c.is_held-2.ensures

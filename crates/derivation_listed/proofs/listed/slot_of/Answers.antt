@@ -1,4 +1,5 @@
 use native.Mathlib.Omega.{arith}
+use mathlib.Core.Path.{refl}
 use Rattle.reader_equality.specs.Keys.{bucket_small}
 use Rattle.reader_slots.specs.Slots.{search_from, search_found, search_end, search_more, turn_below, turn_in, turn_rises}
 use Rattle.derivation_listed.specs.Listed.{same_listed, other_listed}
@@ -10,13 +11,13 @@ record_in-j-requires c = omega (arith, bucket_small _ _ c.bucket_of-slot.ensures
 pub loop-j-init : goal.loop-j-init
 loop-j-init c = (omega (arith, bucket_small _ _ c.bucket_of-slot.ensures), c.record_in-j.ensures, search search_from)
 
-pub entry-requires : goal.entry-requires
-entry-requires c = let p = c.requires in omega (arith, p.0, turn_below _ _ _ _ _ p.2 c.loop-j.invariant.1 c.loop-j-test.true)
+pub bounds-listed-j : goal.bounds-listed-j
+bounds-listed-j c = let p = c.requires in omega (arith, p.0, turn_below _ _ _ _ _ p.2 c.loop-j.invariant.1 c.loop-j-test.true)
 
-pub returns-then-entry-k : goal.returns-then-entry-k
-returns-then-entry-k c =
+pub returns-then-listed-j : goal.returns-then-listed-j
+returns-then-listed-j c =
     let l = c.loop-j.invariant in search_found _ _ _ _ _ _ l.1 l.2 _ l.0
-    (same_listed _ _ _ _ c.entry.ensures c.if-entry-k.true) c.loop-j-test.true
+    (same_listed _ _ _ _ refl c.if-listed-j.true) c.loop-j-test.true
 
 pub slot_under-slot-requires : goal.slot_under-slot-requires
 slot_under-slot-requires c =
@@ -43,7 +44,7 @@ loop-j-preserved c =
       turn_in _ _ _ _ _ p.2 l.1 c.loop-j-test.true _ _ c.slot_under-slot.ensures,
       c.record_in-j-in-loop-j.ensures,
       search_more _ _ _ _ _ _ l.1 l.2 c.loop-j-test.true
-          (other_listed _ _ _ _ c.entry.ensures c.if-entry-k.false) _ _ c.turned-rest.ensures c.slot_under-slot.ensures,
+          (other_listed _ _ _ _ refl c.if-listed-j.false) _ _ c.turned-rest.ensures c.slot_under-slot.ensures,
     )
 
 pub returns : goal.returns

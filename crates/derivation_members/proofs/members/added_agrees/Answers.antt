@@ -1,11 +1,10 @@
 use borrow.Author.Rules.{rules}
-use native.Mathlib.Omega.{arith}
 use mathlib.Core.Path.{refl}
 use Rattle.derivation_members.specs.Members.{frame_next, entry_normal, frames_end, frames_stop, frames_more}
 use Rattle.derivation_members.proofs.members.added_agrees.Goals as goal
 
 pub loop-f-init : goal.loop-f-init
-loop-f-init c = (search rules, refl)
+loop-f-init c = refl
 
 pub entry_at-e-requires : goal.entry_at-e-requires
 entry_at-e-requires c = search frame_next
@@ -16,11 +15,8 @@ entry_agrees-requires c = (λ given. search entry_normal, search rules, search r
 pub returns-then-not-entry_agrees : goal.returns-then-not-entry_agrees
 returns-then-not-entry_agrees c = search frames_stop
 
-pub loop-f-smaller : goal.loop-f-smaller
-loop-f-smaller c = omega arith
-
 pub loop-f-preserved : goal.loop-f-preserved
-loop-f-preserved c = (omega arith, search frames_more)
+loop-f-preserved c = search frames_more
 
 pub returns : goal.returns
 returns c = search frames_end

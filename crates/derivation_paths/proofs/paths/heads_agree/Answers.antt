@@ -4,8 +4,8 @@ use Rattle.derivation_paths.proofs.paths.heads_agree.Goals as goal
 pub returns-then-p-q : goal.returns-then-p-q
 returns-then-p-q c = search heads_differ
 
-pub returns-then-p-eq9 : goal.returns-then-p-eq9
-returns-then-p-eq9 c = search heads_differ
+pub returns-then-p : goal.returns-then-p
+returns-then-p c = search heads_differ
 
 pub returns : goal.returns
 returns c = search heads_same

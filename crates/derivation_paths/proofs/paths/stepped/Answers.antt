@@ -33,4 +33,4 @@ left_at-requires c =
 
 pub returns : goal.returns
 returns c =
-    let p = c.requires in leaves_made _ _ _ _ _ _ p.0 p.1 p.2 (c.is_record-2.ensures.low (not-false _ (ap not c.if-not-is_record-2.false))) (c.is_record-2.ensures.high (not-false _ (ap not c.if-not-is_record-2.false))) (c.is_record.ensures.low (not-false _ (ap not c.if-not-is_record.false))) (c.is_record.ensures.high (not-false _ (ap not c.if-not-is_record.false))) _ _ c.record_of-p.ensures c.record_of-q.ensures (heads_true _ _ _ _ _ c.heads_agree.ensures (not-false _ (ap not c.if-not-heads_agree.false))) _ _ c.parts_in-a.ensures c.parts_in-b.ensures _ c.depth_under-e.ensures _ _ c.part_left-w.ensures c.left_at.ensures
+    let p = c.requires in leaves_made _ _ _ _ _ _ p.0 p.1 p.2 (c.is_record-2.ensures.low (not-false _ (ap not c.if-not-is_record-2.false))) (c.is_record-2.ensures.high (not-false _ (ap not c.if-not-is_record-2.false))) (c.is_record.ensures.low (not-false _ (ap not c.if-not-is_record.false))) (c.is_record.ensures.high (not-false _ (ap not c.if-not-is_record.false))) _ _ c.record_at-p.ensures c.record_at-q.ensures (heads_true _ _ _ _ _ c.heads_agree.ensures (not-false _ (ap not c.if-not-heads_agree.false))) _ _ c.parts_in-a.ensures c.parts_in-b.ensures _ c.depth_under-e.ensures _ _ c.part_left-w.ensures c.left_at.ensures

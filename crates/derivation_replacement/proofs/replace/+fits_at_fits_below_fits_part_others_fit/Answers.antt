@@ -23,74 +23,59 @@ pub fits_at-returns : goal.fits_at-returns
 fits_at-returns t c =
     let e = c.fits_below.ensures in let found = sym (not-false _ (ap not c.if-not-fits_below.false)) ∙ e.0 in (found, c.keep_fits.ensures.keeps _ e.1 (sym found))
 
-pub fits_below-loop-left-init : goal.fits_below-loop-left-init
-fits_below-loop-left-init t c = let p = c.requires in (p.0, p.1, refl, omega arith, omega arith, refl)
+pub fits_below-loop-init : goal.fits_below-loop-init
+fits_below-loop-init t c = let p = c.requires in (p.0, p.1, refl, omega arith)
 
 pub fits_below-heads_fit-requires : goal.fits_below-heads_fit-requires
-fits_below-heads_fit-requires t c = let l = c.loop-left.invariant in (l.0.whole, l.0.body)
+fits_below-heads_fit-requires t c = let l = c.loop.invariant in (l.0.whole, l.0.body)
 
 pub fits_below-returns-then-not-heads_fit : goal.fits_below-returns-then-not-heads_fit
 fits_below-returns-then-not-heads_fit t c =
-    let l = c.loop-left.invariant in (fits_heads _ _ _ _ _ _ l.0.whole l.0.body _ l.1.some refl _ l.1.other refl _ c.heads_fit.ensures (ap not c.if-not-heads_fit.true) ∙ sym l.2, l.0.facts)
+    let l = c.loop.invariant in (fits_heads _ _ _ _ _ _ l.0.whole l.0.body _ l.1.some refl _ l.1.other refl _ c.heads_fit.ensures (ap not c.if-not-heads_fit.true) ∙ sym l.2, l.0.facts)
 
 pub fits_below-last_part-w-requires : goal.fits_below-last_part-w-requires
-fits_below-last_part-w-requires t c = let l = c.loop-left.invariant in (l.0.tables, l.0.body)
+fits_below-last_part-w-requires t c = let l = c.loop.invariant in (l.0.tables, l.0.body)
 
 pub fits_below-others_fit-requires : goal.fits_below-others_fit-requires
-fits_below-others_fit-requires t c = let l = c.loop-left.invariant in (omega (arith, c.decreases, l.3, l.4), (l.0, open_some _ _ _ l.1))
-
-pub fits_below-shape_of-known-then-not-others_fit : goal.fits_below-shape_of-known-then-not-others_fit
-fits_below-shape_of-known-then-not-others_fit t c = c.others_fit.auto.known ∙ c.loop-left.invariant.5
+fits_below-others_fit-requires t c = let l = c.loop.invariant in (omega (arith, c.decreases, l.3), (l.0, open_some _ _ _ l.1))
 
 pub fits_below-returns-then-not-others_fit : goal.fits_below-returns-then-not-others_fit
 fits_below-returns-then-not-others_fit t c =
-    let l = c.loop-left.invariant in let w = c.last_part-w.ensures in (fits_others _ _ _ _ _ _ l.0.whole l.0.body _ l.1.some refl _ l.1.other refl _ c.heads_fit.ensures (ap not c.if-not-heads_fit.false) _ w.1 w.2 _ c.others_fit.ensures.0 (ap not c.if-not-others_fit.true) ∙ sym l.2, c.others_fit.ensures.1)
+    let l = c.loop.invariant in let w = c.last_part-w.ensures in (fits_others _ _ _ _ _ _ l.0.whole l.0.body _ l.1.some refl _ l.1.other refl _ c.heads_fit.ensures (ap not c.if-not-heads_fit.false) _ w.1 w.2 _ c.others_fit.ensures.0 (ap not c.if-not-others_fit.true) ∙ sym l.2, c.others_fit.ensures.1)
 
 pub fits_below-part_depth-f-requires : goal.fits_below-part_depth-f-requires
 fits_below-part_depth-f-requires t c =
-    let l = c.loop-left.invariant in let some = open_some _ _ _ l.1 in (l.0.body, depth_room _ _ some l.0.room)
+    let l = c.loop.invariant in let some = open_some _ _ _ l.1 in (l.0.body, depth_room _ _ some l.0.room)
 
 pub fits_below-part_of-u-requires : goal.fits_below-part_of-u-requires
 fits_below-part_of-u-requires t c =
-    let l = c.loop-left.invariant in let w = c.last_part-w.ensures in (l.0.tables.table, l.0.whole, w.1, w.2)
+    let l = c.loop.invariant in let w = c.last_part-w.ensures in (l.0.tables.table, l.0.whole, w.1, w.2)
 
 pub fits_below-part_of-v-requires : goal.fits_below-part_of-v-requires
 fits_below-part_of-v-requires t c =
-    let l = c.loop-left.invariant in let w = c.last_part-w.ensures in (l.0.tables.table, l.0.body, w.1, w.2)
+    let l = c.loop.invariant in let w = c.last_part-w.ensures in (l.0.tables.table, l.0.body, w.1, w.2)
 
 pub fits_below-follow-rest-requires : goal.fits_below-follow-rest-requires
 fits_below-follow-rest-requires t c =
-    let l = c.loop-left.invariant in let some = open_some _ _ _ l.1 in let a = asking_part _ _ _ _ _ _ _ _ _ l.0 c.others_fit.ensures.1 _ _ _ _ _ some c.part_depth-f.ensures.1 c.part_of-u.ensures c.part_of-v.ensures in (a.tables, a.whole, a.body, a.room)
+    let l = c.loop.invariant in let some = open_some _ _ _ l.1 in let a = asking_part _ _ _ _ _ _ _ _ _ l.0 c.others_fit.ensures.1 _ _ _ _ _ some c.part_depth-f.ensures.1 c.part_of-u.ensures c.part_of-v.ensures in (a.tables, a.whole, a.body, a.room)
 
 pub fits_below-settled-s-requires : goal.fits_below-settled-s-requires
 fits_below-settled-s-requires t c =
-    let l = c.loop-left.invariant in let some = open_some _ _ _ l.1 in asking_left _ _ _ _ _ _ _ _ _ (asking_part _ _ _ _ _ _ _ _ _ l.0 c.others_fit.ensures.1 _ _ _ _ _ some c.part_depth-f.ensures.1 c.part_of-u.ensures c.part_of-v.ensures) c.follow-rest.ensures
-
-pub fits_below-shape_of-known-then-s-ne2 : goal.fits_below-shape_of-known-then-s-ne2
-fits_below-shape_of-known-then-s-ne2 t c = c.others_fit.auto.known ∙ c.loop-left.invariant.5
+    let l = c.loop.invariant in let some = open_some _ _ _ l.1 in asking_left _ _ _ _ _ _ _ _ _ (asking_part _ _ _ _ _ _ _ _ _ l.0 c.others_fit.ensures.1 _ _ _ _ _ some c.part_depth-f.ensures.1 c.part_of-u.ensures c.part_of-v.ensures) c.follow-rest.ensures
 
 pub fits_below-returns-then-s-ne2 : goal.fits_below-returns-then-s-ne2
 fits_below-returns-then-s-ne2 t c =
-    let l = c.loop-left.invariant in let w = c.last_part-w.ensures in (c.settled-s.ensures.plain c.if-s-ne2.true ∙ sym (l.2 ∙ fits_next _ _ _ _ _ _ l.0.whole l.0.body _ l.1.some refl _ l.1.other refl _ c.heads_fit.ensures (ap not c.if-not-heads_fit.false) _ w.1 w.2 _ c.others_fit.ensures.0 (ap not c.if-not-others_fit.false) _ _ _ c.part_depth-f.ensures.0 c.part_of-u.ensures c.part_of-v.ensures ∙ c.follow-rest.ensures.asked _), c.others_fit.ensures.1)
+    let l = c.loop.invariant in let w = c.last_part-w.ensures in (c.settled-s.ensures.plain c.if-s-ne2.true ∙ sym (l.2 ∙ fits_next _ _ _ _ _ _ l.0.whole l.0.body _ l.1.some refl _ l.1.other refl _ c.heads_fit.ensures (ap not c.if-not-heads_fit.false) _ w.1 w.2 _ c.others_fit.ensures.0 (ap not c.if-not-others_fit.false) _ _ _ c.part_depth-f.ensures.0 c.part_of-u.ensures c.part_of-v.ensures ∙ c.follow-rest.ensures.asked _), c.others_fit.ensures.1)
 
-pub fits_below-overflow_sub-left : goal.fits_below-overflow_sub-left
-fits_below-overflow_sub-left t c = omega (arith, c.loop-left-test.true)
-
-pub fits_below-loop-left-smaller : goal.fits_below-loop-left-smaller
-fits_below-loop-left-smaller t c = omega (arith, c.loop-left-test.true)
-
-pub fits_below-loop-left-preserved : goal.fits_below-loop-left-preserved
-fits_below-loop-left-preserved t c =
-    let l = c.loop-left.invariant in let w = c.last_part-w.ensures in let some = open_some _ _ _ l.1 in let g = c.follow-rest.ensures in let f = c.part_of-v.ensures.falls some in (asking_left _ _ _ _ _ _ _ _ _ (asking_part _ _ _ _ _ _ _ _ _ l.0 c.others_fit.ensures.1 _ _ _ _ _ some c.part_depth-f.ensures.1 c.part_of-u.ensures c.part_of-v.ensures) g, c.settled-s.ensures.parts c.if-s-ne2.false, l.2 ∙ fits_next _ _ _ _ _ _ l.0.whole l.0.body _ l.1.some refl _ l.1.other refl _ c.heads_fit.ensures (ap not c.if-not-heads_fit.false) _ w.1 w.2 _ c.others_fit.ensures.0 (ap not c.if-not-others_fit.false) _ _ _ c.part_depth-f.ensures.0 c.part_of-u.ensures c.part_of-v.ensures ∙ g.asked _, omega (arith, f, g.low, l.3, c.loop-left-test.true), omega (arith, l.4), c.others_fit.auto.known ∙ c.loop-left.invariant.5)
+pub fits_below-loop-preserved : goal.fits_below-loop-preserved
+fits_below-loop-preserved t c =
+    let l = c.loop.invariant in let w = c.last_part-w.ensures in let some = open_some _ _ _ l.1 in let g = c.follow-rest.ensures in let f = c.part_of-v.ensures.falls some in (asking_left _ _ _ _ _ _ _ _ _ (asking_part _ _ _ _ _ _ _ _ _ l.0 c.others_fit.ensures.1 _ _ _ _ _ some c.part_depth-f.ensures.1 c.part_of-u.ensures c.part_of-v.ensures) g, c.settled-s.ensures.parts c.if-s-ne2.false, l.2 ∙ fits_next _ _ _ _ _ _ l.0.whole l.0.body _ l.1.some refl _ l.1.other refl _ c.heads_fit.ensures (ap not c.if-not-heads_fit.false) _ w.1 w.2 _ c.others_fit.ensures.0 (ap not c.if-not-others_fit.false) _ _ _ c.part_depth-f.ensures.0 c.part_of-u.ensures c.part_of-v.ensures ∙ g.asked _, omega (arith, f, g.low, l.3))
 
 pub fits_below-fits_at-requires : goal.fits_below-fits_at-requires
-fits_below-fits_at-requires t c = let l = c.loop-left.invariant in (omega (arith, c.decreases, l.3, c.loop-left-test.false), l.0)
-
-pub fits_below-shape_of-known : goal.fits_below-shape_of-known
-fits_below-shape_of-known t c = c.fits_at.auto.known ∙ c.loop-left.invariant.5
+fits_below-fits_at-requires t c = let l = c.loop.invariant in (omega (arith, c.decreases, l.3, c.loop-test.false), l.0)
 
 pub fits_below-returns : goal.fits_below-returns
-fits_below-returns t c = let l = c.loop-left.invariant in let e = c.fits_at.ensures in (e.0 ∙ sym l.2, e.1)
+fits_below-returns t c = let l = c.loop.invariant in let e = c.fits_at.ensures in (e.0 ∙ sym l.2, e.1)
 
 pub fits_part-part_depth-e-requires : goal.fits_part-part_depth-e-requires
 fits_part-part_depth-e-requires t c = let q = c.requires in (q.0.body, depth_room _ _ q.1 q.0.room)

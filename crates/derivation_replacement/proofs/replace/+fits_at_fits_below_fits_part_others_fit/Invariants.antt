@@ -1,7 +1,6 @@
 use Prim.Native.Nat.{◌+◌, ◌*◌, ◌≤◌}
 use mathlib.Core.Path.{◌≡◌}
-use lib.ListN.{length}
-use Rattle.reader.specs.Words.{word}
+use Rattle.reader.specs.Files.{words}
 use Rattle.derivation_trees.specs.Keys.{rank}
 use Rattle.derivation_known.specs.Known.{fits}
 use Rattle.derivation_replacement.specs.Settled.{Asking, Open}
@@ -19,10 +18,7 @@ decreases-fits_part l = 4 * rank l.j
 abbrev pub decreases-others_fit : goal.decreases-others_fit
 decreases-others_fit l = 4 * rank l.j + 1
 
-abbrev pub invariant-fits_below-loop-left : goal.invariant-fits_below-loop-left
-invariant-fits_below-loop-left l =
-    Asking (word l.obligation l.second l.m) l.keys l.reaches l.known l.y l.t l.z l.e × Open (word l.obligation l.second l.m) l.z l.e ×
-    (fits (word l.obligation l.second l.m) l.x l.t l.j l.d ≡ fits (word l.obligation l.second l.m) l.y l.t l.z l.e) × (rank l.z + 64 ≤ rank l.j + l.left) × (l.left ≤ 64) × (length l.known ≡ length l.initial.known)
-
-abbrev pub decreases-fits_below-loop-left : goal.decreases-fits_below-loop-left
-decreases-fits_below-loop-left l = l.left
+abbrev pub invariant-fits_below-loop : goal.invariant-fits_below-loop
+invariant-fits_below-loop l =
+    Asking (words l.files) l.keys l.reaches l.known l.y l.t l.z l.e × Open (words l.files) l.z l.e ×
+    (fits (words l.files) l.x l.t l.j l.d ≡ fits (words l.files) l.y l.t l.z l.e) × (rank l.z + l.counter ≤ rank l.j)

@@ -5,8 +5,8 @@ use Rattle.derivation_replacement.proofs.replace.part_depth.Goals as goal
 pub returns-then-w-ne2 : goal.returns-then-w-ne2
 returns-then-w-ne2 c = (search depth_same, omega arith)
 
-pub returns-then-kind_of-eq19 : goal.returns-then-kind_of-eq19
-returns-then-kind_of-eq19 c = (search depth_binder, omega arith)
+pub returns-then-kind_of : goal.returns-then-kind_of
+returns-then-kind_of c = (search depth_binder, omega arith)
 
-pub returns-else-kind_of-eq19 : goal.returns-else-kind_of-eq19
-returns-else-kind_of-eq19 c = (search depth_other, omega arith)
+pub returns-else-kind_of : goal.returns-else-kind_of
+returns-else-kind_of c = (search depth_other, omega arith)

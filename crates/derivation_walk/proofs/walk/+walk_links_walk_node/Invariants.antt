@@ -1,7 +1,7 @@
 use Prim.Native.Nat.{◌+◌, ◌*◌}
 use mathlib.Core.Path.{◌≡◌}
 use lib.ListN.{length}
-use Rattle.reader.specs.Words.{word}
+use Rattle.reader.specs.Files.{words}
 use Rattle.derivation_known.specs.Known.{Known}
 use Rattle.derivation_walk.specs.Turns.{Turn}
 use Rattle.derivation_walk.proofs.walk.+walk_links_walk_node.Given as goal
@@ -14,7 +14,7 @@ decreases-walk_node l = 2 * l.n + 1
 
 abbrev pub invariant-walk_links-loop-c : goal.invariant-walk_links-loop-c
 invariant-walk_links-loop-c l =
-    Turn (word l.obligation l.second l.m) l.keys l.initial.frames l.d l.n l.entered l.frames l.c l.b l.count × (l.reaches ≡ l.initial.reaches) × Known (word l.obligation l.second l.m) l.known × (length l.known ≡ length l.initial.known)
+    Turn (words l.files) l.keys l.initial.frames l.d l.n l.entered l.frames l.c l.b l.count × (l.reaches ≡ l.initial.reaches) × Known (words l.files) l.known × (length l.known ≡ length l.initial.known)
 
 abbrev pub decreases-walk_links-loop-c : goal.decreases-walk_links-loop-c
 decreases-walk_links-loop-c l = l.c

@@ -1,7 +1,6 @@
-use borrow.Author.Rules.{rules}
+use Rattle.std.proofs.Common.{◌∙◌}
 use Rattle.favashears.specs.Unpacked.{derivation_unpacks}
-use native.Mathlib.Omega.{arith}
 use Rattle.favashears.proofs.entries.desk_check_derivation.Goals as goal
 
 pub returns : goal.returns
-returns c = derivation_unpacks _ _ _ _ c.pack.ensures c.check_derivation.ensures
+returns c = derivation_unpacks _ _ _ _ c.pack.ensures (c.of.ensures ∙ c.check_derivation.ensures)

@@ -1,30 +1,27 @@
 use native.Mathlib.Omega.{arith}
-use mathlib.Core.Path.{sym, ◌∙◌}
-use Rattle.proof_check.specs.Started.{left_all, left_room, left_item, left_next, left_falls, left_none}
+use mathlib.Core.Path.{◌≡◌, sym, ◌∙◌}
+use Rattle.proof_check.specs.Started.{left_all, left_room, left_item, left_next, left_none, left_full}
 use Rattle.proof_check.proofs.start.add_hypotheses.Goals as goal
 
-pub loop-l-init : goal.loop-l-init
-loop-l-init c = search left_all
+pub loop-h-init : goal.loop-h-init
+loop-h-init c = search left_all
+
+pub returns-then-l-eq0 : goal.returns-then-l-eq0
+returns-then-l-eq0 c = left_none _ _ _ _ _ c.loop-h.invariant c.if-l-eq0.true
 
 pub add_record-requires : goal.add_record-requires
 add_record-requires c = (
-  c.loop-l.invariant.ready,
-  left_room _ _ _ _ _ c.loop-l.invariant c.loop-l-test.true,
-  left_item _ _ _ _ _
-      c.loop-l.invariant c.loop-l-test.true _ c.lower_at-item.ensures,
+  c.loop-h.invariant.ready,
+  left_room _ _ _ _ _ c.loop-h.invariant c.if-l-eq0.false,
+  left_item _ _ _ _ _ c.loop-h.invariant c.if-l-eq0.false _ c.lower_at-item.ensures,
 )
 
-pub overflow_add-h : goal.overflow_add-h
-overflow_add-h c = omega (arith, c.loop-l.invariant.few)
-
-pub loop-l-smaller : goal.loop-l-smaller
-loop-l-smaller c = search left_falls
-
-pub loop-l-preserved : goal.loop-l-preserved
-loop-l-preserved c = search left_next
+pub loop-h-preserved : goal.loop-h-preserved
+loop-h-preserved c = search left_next
 
 pub shape_of-memory : goal.shape_of-memory
-shape_of-memory c = c.loop-l.invariant.ready.long ∙ sym c.requires.long
+shape_of-memory c = c.loop-h.invariant.ready.long ∙ sym c.requires.long
 
 pub returns : goal.returns
-returns c = left_none _ _ _ _ _ c.loop-l.invariant c.loop-l-test.false
+returns c =
+    let full : c.loop-h.h ≡ 256 = omega (arith, c.loop-h.auto.h-end, c.loop-h-test.false) in left_full _ _ _ _ (rw full at c.loop-h.invariant)

@@ -7,8 +7,8 @@ returns-then-s-lt32 t c = search shape_kind
 pub returns-then-s-lt64 : goal.returns-then-s-lt64
 returns-then-s-lt64 t c = search shape_class
 
-pub returns-then-k-ne18 : goal.returns-then-k-ne18
-returns-then-k-ne18 t c = search shape_other
+pub returns-then-k : goal.returns-then-k
+returns-then-k t c = search shape_other
 
 pub returns : goal.returns
 returns t c = search shape_negated

@@ -5,8 +5,8 @@ use Rattle.proof_members.proofs.keys.body_in.Goals as goal
 pub equation_key-requires : goal.equation_key-requires
 equation_key-requires c = (search rules, search first_in, search second_in)
 
-pub returns-then-x-eq20 : goal.returns-then-x-eq20
-returns-then-x-eq20 c = search record_equation
+pub returns-then-x : goal.returns-then-x
+returns-then-x c = search record_equation
 
 pub pack-requires : goal.pack-requires
 pack-requires c = (search rules, search number_small, search rules)

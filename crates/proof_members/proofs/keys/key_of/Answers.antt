@@ -8,8 +8,8 @@ returns-then-i-eq0 c = search key_none
 pub negated_key-requires : goal.negated_key-requires
 negated_key-requires c = (search rules, search (first_in, above_zero))
 
-pub returns-then-x-eq18 : goal.returns-then-x-eq18
-returns-then-x-eq18 c = search (record_negation, above_zero)
+pub returns-then-x : goal.returns-then-x
+returns-then-x c = search (record_negation, above_zero)
 
 pub returns : goal.returns
 returns c = search (record_plain, above_zero)

@@ -1,15 +1,11 @@
-use Prim.Native.Nat.{◌≤◌, ◌-◌}
 use mathlib.Core.Path.{◌≡◌}
-use Rattle.reader.specs.Words.{word}
+use Rattle.reader.specs.Files.{words}
 use Rattle.reader.specs.Members.{member}
 use Rattle.proof_members.specs.Keys.{decoded}
 use Rattle.proof_members.specs.Sequents.{sequent, members_from}
 use Rattle.proof_members.proofs.search.holds.Given as goal
 
-abbrev pub invariant-loop-i : goal.invariant-loop-i
-invariant-loop-i l =
-    (l.i ≤ l.h) × (member (decoded (word l.obligation l.second l.m) l.key) (sequent (word l.obligation l.second l.m) l.memory l.h) ≡ member
-    (decoded (word l.obligation l.second l.m) l.key) (members_from (word l.obligation l.second l.m) l.memory l.h l.i))
-
-abbrev pub decreases-loop-i : goal.decreases-loop-i
-decreases-loop-i l = l.h - l.i
+abbrev pub invariant-loop-other : goal.invariant-loop-other
+invariant-loop-other l =
+    member (decoded (words l.files) l.key) (sequent (words l.files) l.memory l.h)
+    ≡ member (decoded (words l.files) l.key) (members_from (words l.files) l.memory l.h l.other-index)

@@ -2,9 +2,9 @@ use Rattle.reader.specs.TestLaws.{ifs}
 use Rattle.reader.specs.Kinds.{is_number}
 use Rattle.reader.proofs.kinds.is_number.Goals as goal
 
-pub returns-then-r-lt2 : goal.returns-then-r-lt2
+pub returns-then-r : goal.returns-then-r
 unfolding is_number
-returns-then-r-lt2 c = search ifs
+returns-then-r c = search ifs
 
 pub returns : goal.returns
 unfolding is_number

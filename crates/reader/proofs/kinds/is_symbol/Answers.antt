@@ -2,13 +2,13 @@ use Rattle.reader.specs.TestLaws.{ifs}
 use Rattle.reader.specs.Kinds.{is_symbol}
 use Rattle.reader.proofs.kinds.is_symbol.Goals as goal
 
-pub returns-then-k-eq3 : goal.returns-then-k-eq3
+pub returns-then-k : goal.returns-then-k
 unfolding is_symbol
-returns-then-k-eq3 c = search ifs
+returns-then-k c = search ifs
 
-pub returns-then-k-eq7 : goal.returns-then-k-eq7
+pub returns-then-k-2 : goal.returns-then-k-2
 unfolding is_symbol
-returns-then-k-eq7 c = search ifs
+returns-then-k-2 c = search ifs
 
 pub returns : goal.returns
 unfolding is_symbol

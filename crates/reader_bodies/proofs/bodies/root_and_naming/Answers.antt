@@ -1,11 +1,14 @@
 use native.Mathlib.Omega.{arith}
 use Prim.Native.Nat.{◌+◌, ◌-◌}
-use Rattle.reader_bodies.specs.Places.{root_stop, root_go}
+use Rattle.std.proofs.Common.{ap, not}
+use Rattle.reader_bodies.specs.Places.{refused_is, root_stop, root_go}
 use Rattle.reader_bodies.specs.Tables.{part_long, cleared_part, cleared_back}
 use Rattle.reader_bodies.proofs.bodies.root_and_naming.Goals as goal
 
 pub returns-then-not-is_rule : goal.returns-then-not-is_rule
-returns-then-not-is_rule c = let p = c.requires in (search root_stop, p.3, p.4)
+returns-then-not-is_rule c =
+    let p = c.requires in
+    (root_stop _ _ _ _ _ _ _ c.word_of-root.ensures c.word_at.ensures _ c.is_rule.ensures _ (ap not c.if-not-is_rule.true) (refused_is _ _ _ c.refused.ensures), p.3, p.4)
 
 pub first_unnamed-requires : goal.first_unnamed-requires
 first_unnamed-requires c =

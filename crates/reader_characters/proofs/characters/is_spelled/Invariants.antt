@@ -1,6 +1,6 @@
 use mathlib.Core.Path.{◌≡◌}
 use lib.ListN.{length}
-use Rattle.reader.specs.Words.{word}
+use Rattle.reader.specs.Files.{words}
 use Rattle.reader.specs.Chains.{linked}
 use Rattle.reader.specs.Names.{name_bytes, characters}
 use Rattle.reader_characters.specs.Steps.{Held, spelled, is_spelled}
@@ -8,7 +8,7 @@ use Rattle.reader_characters.proofs.characters.is_spelled.Given as goal
 
 abbrev pub invariant-loop-s : goal.invariant-loop-s
 invariant-loop-s l =
-    (is_spelled (characters (name_bytes (word l.obligation l.second l.m) (linked (word l.obligation l.second l.m) l.first))) ≡ is_spelled (spelled (word l.obligation l.second l.m) l.s)) × Held l.s
+    (is_spelled (characters (name_bytes (words l.files) (linked (words l.files) l.first))) ≡ is_spelled (spelled (words l.files) l.s)) × Held l.s
 
 abbrev pub decreases-loop-s : goal.decreases-loop-s
-decreases-loop-s l = length (spelled (word l.obligation l.second l.m) l.s)
+decreases-loop-s l = length (spelled (words l.files) l.s)

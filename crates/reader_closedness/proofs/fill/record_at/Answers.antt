@@ -1,14 +1,6 @@
 use native.Mathlib.Omega.{arith}
-use Rattle.reader.specs.WordLaws.{word_small}
+use Rattle.reader.specs.Files.{words_small}
 use Rattle.reader_closedness.proofs.fill.record_at.Goals as goal
 
 pub returns : goal.returns
-returns c = (
-  c.record_of.ensures,
-  let a = c.args in omega (
-    arith,
-    c.record_of.ensures.a_is,
-    word_small a.obligation.now a.second.now a.m a.i 1
-        (λ k. omega (arith, c.shared_slice_known-1.given k)) (λ k. omega (arith, c.shared_slice_known-2-1.given k)),
-  ),
-)
+returns c = (c.record_at.ensures, omega (arith, c.record_at.ensures.a_is, words_small c.args.files.now c.args.i 1))

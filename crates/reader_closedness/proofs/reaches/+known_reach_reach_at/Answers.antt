@@ -21,34 +21,34 @@ reach_at-returns-then-i-eq0 t c = search reach_none
 pub reach_at-known_reach-x-requires : goal.reach_at-known_reach-x-requires
 reach_at-known_reach-x-requires t c = (
   part_falls _ _ _
-      c.record_of-v.ensures 1 (lit< tt) _ c.part_of-a.ensures t c.decreases c.if-i-eq0.false,
+      c.record_at-v.ensures 1 (lit< tt) _ c.part_of-a.ensures t c.decreases c.if-i-eq0.false,
   (c.requires.0, c.requires.1),
 )
 
 pub reach_at-known_reach-y-requires : goal.reach_at-known_reach-y-requires
 reach_at-known_reach-y-requires t c = (
   part_falls _ _ _
-      c.record_of-v.ensures 2 (lit< tt) _ c.part_of-b.ensures t c.decreases c.if-i-eq0.false,
+      c.record_at-v.ensures 2 (lit< tt) _ c.part_of-b.ensures t c.decreases c.if-i-eq0.false,
   (c.requires.0, c.requires.1),
 )
 
 pub reach_at-known_reach-z-requires : goal.reach_at-known_reach-z-requires
 reach_at-known_reach-z-requires t c = (
   part_falls _ _ _
-      c.record_of-v.ensures 3 (lit< tt) _ c.part_of-c.ensures t c.decreases c.if-i-eq0.false,
+      c.record_at-v.ensures 3 (lit< tt) _ c.part_of-c.ensures t c.decreases c.if-i-eq0.false,
   (c.requires.0, c.requires.1),
 )
 
 pub reach_at-returns : goal.reach_at-returns
 reach_at-returns t c =
     reach_node _ _ _ _ _ _ _ _ _ _ _ _ c.if-i-eq0.false
-    c.record_of-v.ensures.kind_is
+    c.record_at-v.ensures.kind_is
     c.own_reach-own.ensures (reach_part _ _ _
-    c.record_of-v.ensures 1 (lit< tt) _
+    c.record_at-v.ensures 1 (lit< tt) _
     c.part_of-a.ensures _ _
     c.known_reach-x.ensures) (reach_part _ _ _
-    c.record_of-v.ensures 2 (lit< tt) _
+    c.record_at-v.ensures 2 (lit< tt) _
     c.part_of-b.ensures _ _ c.known_reach-y.ensures)
-    (reach_part _ _ _ c.record_of-v.ensures 3 (lit< tt) _
+    (reach_part _ _ _ c.record_at-v.ensures 3 (lit< tt) _
     c.part_of-c.ensures _ _ c.known_reach-z.ensures)
     c.under.ensures c.larger.ensures c.larger-2.ensures c.larger-3.ensures

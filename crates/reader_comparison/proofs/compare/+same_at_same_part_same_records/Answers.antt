@@ -9,11 +9,17 @@ use Rattle.reader_comparison.proofs.compare.+same_at_same_part_same_records.Goal
 pub same_at-returns-then-i-j : goal.same_at-returns-then-i-j
 same_at-returns-then-i-j t c = search from_one
 
-pub same_at-entry-requires : goal.same_at-entry-requires
-same_at-entry-requires t c = (entries_in _ _ _ _ _ c.has_both.ensures c.if-has_both.true c.requires).0
+pub same_at-offset_bounds-table-i : goal.same_at-offset_bounds-table-i
+same_at-offset_bounds-table-i t c = omega (arith, entries_in _ _ _ _ _ c.has_both.ensures c.if-has_both.true c.requires)
 
-pub same_at-entry-requires-then-has_both : goal.same_at-entry-requires-then-has_both
-same_at-entry-requires-then-has_both t c = (entries_in _ _ _ _ _ c.has_both.ensures c.if-has_both.true c.requires).1
+pub same_at-bounds-table-i : goal.same_at-bounds-table-i
+same_at-bounds-table-i t c = (entries_in _ _ _ _ _ c.has_both.ensures c.if-has_both.true c.requires).0
+
+pub same_at-offset_bounds-table-j : goal.same_at-offset_bounds-table-j
+same_at-offset_bounds-table-j t c = omega (arith, entries_in _ _ _ _ _ c.has_both.ensures c.if-has_both.true c.requires)
+
+pub same_at-bounds-table-j : goal.same_at-bounds-table-j
+same_at-bounds-table-j t c = (entries_in _ _ _ _ _ c.has_both.ensures c.if-has_both.true c.requires).1
 
 pub same_at-returns-then-has_both : goal.same_at-returns-then-has_both
 same_at-returns-then-has_both t c = search from_known
@@ -52,12 +58,12 @@ same_records-same_part-requires t c = (part_falls _ _ _ _ t c.decreases c.requir
 
 pub same_records-returns-then-not-same_part : goal.same_records-returns-then-not-same_part
 same_records-returns-then-not-same_part t c =
-    records_parts _ _ _ _ _ _ _ c.record_of-x.ensures
-    c.record_of-y.ensures
+    records_parts _ _ _ _ _ _ _ c.record_at-x.ensures
+    c.record_at-y.ensures
     c.if-x-y.false _ _ c.atom_of.ensures
     c.atom_of-2.ensures c.if-atom_of.false _ (both_stop _ _ _ (part_same _ _ _ _ _ _ _
-    c.record_of-x.ensures
-    c.record_of-y.ensures 1 (lit< tt) _ _ c.part_of-a.ensures
+    c.record_at-x.ensures
+    c.record_at-y.ensures 1 (lit< tt) _ _ c.part_of-a.ensures
     c.part_of-b.ensures _ c.same_part.ensures) (ap not c.if-not-same_part.true))
 
 pub same_records-same_part-requires-2 : goal.same_records-same_part-requires-2
@@ -66,18 +72,18 @@ same_records-same_part-requires-2 t c = (part_falls _ _ _ _ t c.decreases c.requ
 pub same_records-returns-then-not-same_part-2 : goal.same_records-returns-then-not-same_part-2
 same_records-returns-then-not-same_part-2 t c =
     records_parts _ _ _ _ _ _ _
-    c.record_of-x.ensures
-    c.record_of-y.ensures
+    c.record_at-x.ensures
+    c.record_at-y.ensures
     c.if-x-y.false _ _
     c.atom_of.ensures
     c.atom_of-2.ensures
     c.if-atom_of.false _ (both_go _ _ _ _ (part_same _ _ _ _ _ _ _
-    c.record_of-x.ensures
-    c.record_of-y.ensures 1 (lit< tt) _ _
+    c.record_at-x.ensures
+    c.record_at-y.ensures 1 (lit< tt) _ _
     c.part_of-a.ensures c.part_of-b.ensures _
     c.same_part.ensures) (ap not c.if-not-same_part.false) (both_stop _ _ _ (part_same _ _ _ _ _ _ _
-    c.record_of-x.ensures
-    c.record_of-y.ensures 2 (lit< tt) _ _
+    c.record_at-x.ensures
+    c.record_at-y.ensures 2 (lit< tt) _ _
     c.part_of-c.ensures c.part_of-d.ensures _ c.same_part-2.ensures) (ap not c.if-not-same_part-2.true)))
 
 pub same_records-same_part-requires-3 : goal.same_records-same_part-requires-3
@@ -86,22 +92,22 @@ same_records-same_part-requires-3 t c = (part_falls _ _ _ _ t c.decreases c.requ
 pub same_records-returns : goal.same_records-returns
 same_records-returns t c =
     records_parts _ _ _ _ _ _ _
-    c.record_of-x.ensures
-    c.record_of-y.ensures
+    c.record_at-x.ensures
+    c.record_at-y.ensures
     c.if-x-y.false _ _
     c.atom_of.ensures
     c.atom_of-2.ensures
     c.if-atom_of.false _ (both_go _ _ _ _ (part_same _ _ _ _ _ _ _
-    c.record_of-x.ensures
-    c.record_of-y.ensures 1
+    c.record_at-x.ensures
+    c.record_at-y.ensures 1
     (lit< tt) _ _ c.part_of-a.ensures
     c.part_of-b.ensures _
     c.same_part.ensures) (ap not c.if-not-same_part.false)
     (both_go _ _ _ _ (part_same _ _ _ _ _ _ _
-    c.record_of-x.ensures
-    c.record_of-y.ensures 2
+    c.record_at-x.ensures
+    c.record_at-y.ensures 2
     (lit< tt) _ _ c.part_of-c.ensures c.part_of-d.ensures _
     c.same_part-2.ensures) (ap not c.if-not-same_part-2.false) (part_same _ _ _ _ _ _ _
-    c.record_of-x.ensures
-    c.record_of-y.ensures 3
+    c.record_at-x.ensures
+    c.record_at-y.ensures 3
     (lit< tt) _ _ c.part_of-e.ensures c.part_of-f.ensures _ c.same_part-3.ensures)))

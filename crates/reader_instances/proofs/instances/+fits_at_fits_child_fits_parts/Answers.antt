@@ -14,9 +14,9 @@ unfolding fits_parts
 fits_at-returns-then-x-ne0 t c =
     let p = c.requires.1 in (remembered_is _ _ _ _ _ _ _ p c.entry_at-x.ensures c.if-x-ne0.true c.same_at.ensures, p)
 
-pub fits_at-returns-then-word_at-eq6 : goal.fits_at-returns-then-word_at-eq6
+pub fits_at-returns-then-word_at : goal.fits_at-returns-then-word_at
 unfolding fits_parts
-fits_at-returns-then-word_at-eq6 t c = let p = c.requires.1 in (search fits_variable_lem, p)
+fits_at-returns-then-word_at t c = let p = c.requires.1 in (search fits_variable_lem, p)
 
 pub fits_at-returns-then-i-eq0 : goal.fits_at-returns-then-i-eq0
 unfolding fits_parts
@@ -31,7 +31,7 @@ unfolding fits_parts
 fits_at-returns-then-not-fits_parts t c =
     let f = c.fits_parts.ensures in (
       fits_more _ _ _ _ c.if-j-eq0.false _
-          c.word_at.ensures c.if-word_at-eq6.false
+          c.word_at.ensures c.if-word_at.false
           c.if-i-eq0.false _ (found_false _ _ f.0 (ap not c.if-not-fits_parts.true)),
       f.1,
     )
@@ -42,7 +42,7 @@ fits_at-returns t c =
     let f = c.fits_parts.ensures in let e = fits_more _ _ _ _
     c.if-j-eq0.false _
     c.word_at.ensures
-    c.if-word_at-eq6.false c.if-i-eq0.false _
+    c.if-word_at.false c.if-i-eq0.false _
     (found_true _ _ f.0 (ap not c.if-not-fits_parts.false)) in (e, remembered_more _ _ _ _ _ _ f.1 e c.store.ensures)
 
 pub fits_child-fits_at-requires : goal.fits_child-fits_at-requires

@@ -1,5 +1,5 @@
 use native.Mathlib.Omega.{arith}
-use Rattle.reader.specs.WordLaws.{word_small}
+use Rattle.reader.specs.Files.{words_small}
 use Rattle.reader_names.specs.Plain.{plain_apart}
 use Rattle.reader_names.specs.Taken.{enter_out, enter_old, enter_new}
 use Rattle.reader_names.proofs.slots.enter.Goals as goal
@@ -11,7 +11,7 @@ pub slot_of-slot-requires : goal.slot_of-slot-requires
 slot_of-slot-requires c = (
   c.requires.1.room,
   c.parts_of-parts.ensures,
-  plain_apart _ (λ r w. word_small _ _ _ r w (λ k. omega (arith, c.shared_slice_known-1.given k)) (λ k. omega (arith, c.shared_slice_known-2-1.given k))) _ _
+  plain_apart _ (words_small c.args.files.now) _ _
       c.parts_of-parts.ensures c.if-parts-eq0.false _ c.plain_name-plain.ensures,
   c.requires.2.placed,
 )

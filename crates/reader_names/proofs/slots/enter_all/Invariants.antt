@@ -1,13 +1,7 @@
-use Prim.Native.Nat.{◌+◌, ◌-◌, ◌<◌, ◌≤◌}
-use mathlib.Core.Path.{◌≡◌}
-use lib.ListN.{length}
-use Rattle.reader.specs.Words.{word}
+use Rattle.std.proofs.Common.{◌+◌, ◌≤◌}
+use Rattle.reader.specs.Files.{words}
 use Rattle.reader_names.specs.Taken.{Names}
 use Rattle.reader_names.proofs.slots.enter_all.Given as goal
 
 abbrev pub invariant-loop-i : goal.invariant-loop-i
-invariant-loop-i l =
-    (0 < l.i) × (l.i ≤ l.last + 1) × (length l.slots ≡ length l.initial.slots) × Names (word l.obligation l.second l.m) l.slots l.i
-
-abbrev pub decreases-loop-i : goal.decreases-loop-i
-decreases-loop-i l = l.last + 1 - l.i
+invariant-loop-i l = (l.i ≤ l.last + 1) × Names (words l.files) l.slots l.i

@@ -2,17 +2,17 @@ use Rattle.reader.specs.TestLaws.{ifs_of}
 use Rattle.reader.specs.Names.{name_of}
 use Rattle.reader_names.proofs.symbols.name_in.Goals as goal
 
-pub returns-then-x-eq3 : goal.returns-then-x-eq3
+pub returns-then-x : goal.returns-then-x
 unfolding name_of
-returns-then-x-eq3 c = search ifs_of
+returns-then-x c = search ifs_of
 
-pub returns-then-x-eq7 : goal.returns-then-x-eq7
+pub returns-then-x-2 : goal.returns-then-x-2
 unfolding name_of
-returns-then-x-eq7 c = search ifs_of
+returns-then-x-2 c = search ifs_of
 
-pub returns-then-x-eq8 : goal.returns-then-x-eq8
+pub returns-then-x-3 : goal.returns-then-x-3
 unfolding name_of
-returns-then-x-eq8 c = search ifs_of
+returns-then-x-3 c = search ifs_of
 
 pub returns : goal.returns
 unfolding name_of

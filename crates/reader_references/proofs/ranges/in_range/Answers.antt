@@ -3,29 +3,29 @@ use Rattle.reader.specs.Records.{in_range}
 use Rattle.reader_references.specs.References.{range_any}
 use Rattle.reader_references.proofs.ranges.in_range.Goals as goal
 
-pub returns-then-role-eq0 : goal.returns-then-role-eq0
+pub returns-then-role : goal.returns-then-role
 unfolding in_range
-returns-then-role-eq0 c = search ifs
+returns-then-role c = search ifs
 
-pub returns-then-role-ge6 : goal.returns-then-role-ge6
+pub returns-then-role-2 : goal.returns-then-role-2
 unfolding in_range
-returns-then-role-ge6 c = search range_any
+returns-then-role-2 c = search range_any
 
-pub returns-then-role-eq2 : goal.returns-then-role-eq2
+pub returns-then-role-3 : goal.returns-then-role-3
 unfolding in_range
-returns-then-role-eq2 c = search ifs
+returns-then-role-3 c = search ifs
 
-pub returns-then-role-eq3 : goal.returns-then-role-eq3
+pub returns-then-role-4 : goal.returns-then-role-4
 unfolding in_range
-returns-then-role-eq3 c = search ifs
+returns-then-role-4 c = search ifs
 
-pub returns-then-role-eq4 : goal.returns-then-role-eq4
+pub returns-then-role-5 : goal.returns-then-role-5
 unfolding in_range
-returns-then-role-eq4 c = search ifs
+returns-then-role-5 c = search ifs
 
-pub returns-then-role-eq5 : goal.returns-then-role-eq5
+pub returns-then-role-6 : goal.returns-then-role-6
 unfolding in_range
-returns-then-role-eq5 c = search ifs
+returns-then-role-6 c = search ifs
 
 pub returns : goal.returns
 unfolding in_range

@@ -1,5 +1,5 @@
 use mathlib.Core.Path.{◌≡◌}
-use Rattle.reader.specs.Words.{word}
+use Rattle.reader.specs.Files.{words}
 use Rattle.reader.specs.Tests.{every}
 use Rattle.reader.specs.Chains.{items}
 use Rattle.reader.specs.Records.{has_class}
@@ -7,8 +7,8 @@ use Rattle.reader_references.proofs.references.every_item.Given as goal
 
 abbrev pub invariant-loop-at : goal.invariant-loop-at
 invariant-loop-at l =
-    every (has_class (word l.obligation l.second l.m) l.c) (items (word l.obligation l.second l.m) l.j)
-    ≡ every (has_class (word l.obligation l.second l.m) l.c) (items (word l.obligation l.second l.m) l.at)
+    every (has_class (words l.files) l.c) (items (words l.files) l.j)
+    ≡ every (has_class (words l.files) l.c) (items (words l.files) l.at)
 
 abbrev pub decreases-loop-at : goal.decreases-loop-at
 decreases-loop-at l = l.at

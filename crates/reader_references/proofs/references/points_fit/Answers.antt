@@ -11,9 +11,9 @@ pub returns-then-not-points_in-2 : goal.returns-then-not-points_in-2
 unfolding points_fit
 returns-then-not-points_in-2 c = search (roles, points_is, boths)
 
-pub returns-then-third-lt6 : goal.returns-then-third-lt6
+pub returns-then-third : goal.returns-then-third
 unfolding points_fit
-returns-then-third-lt6 c = search (roles, points_is, points_free, boths)
+returns-then-third c = search (roles, points_is, points_free, boths)
 
 pub returns : goal.returns
 unfolding points_fit

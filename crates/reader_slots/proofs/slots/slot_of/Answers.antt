@@ -16,7 +16,7 @@ has_key-requires c =
 pub returns-then-has_key : goal.returns-then-has_key
 returns-then-has_key c =
     let l = c.loop-j.invariant in search_found _ _ _ _ _ _ l.1 l.2 _ l.0
-    (keys_equal _ _ _ (key_in_lem _ _ _ _ _ c.record_of-x.ensures) _ c.has_key.ensures c.if-has_key.true) c.loop-j-test.true
+    (keys_equal _ _ _ (key_in_lem _ _ _ _ _ c.record_at-x.ensures) _ c.has_key.ensures c.if-has_key.true) c.loop-j-test.true
 
 pub slot_under-slot-requires : goal.slot_under-slot-requires
 slot_under-slot-requires c = let p = c.requires in omega (arith, turn_below _ _ _ _ _ p.3 c.loop-j.invariant.1 c.loop-j-test.true)
@@ -35,7 +35,7 @@ loop-j-preserved c =
       turn_in _ _ _ _ _ p.3 l.1 some _ _ c.slot_under-slot.ensures,
       c.record_in-j-in-loop-j.ensures,
       search_more _ _ _ _ _ _ l.1 l.2 some
-          (keys_differ _ _ _ (key_in_lem _ _ _ _ _ c.record_of-x.ensures) _ c.has_key.ensures c.if-has_key.false) _ _ c.turned-rest.ensures c.slot_under-slot.ensures,
+          (keys_differ _ _ _ (key_in_lem _ _ _ _ _ c.record_at-x.ensures) _ c.has_key.ensures c.if-has_key.false) _ _ c.turned-rest.ensures c.slot_under-slot.ensures,
     )
 
 pub returns : goal.returns

@@ -2,22 +2,22 @@ use Rattle.reader.specs.TestLaws.{ifs}
 use Rattle.reader_weights.specs.Weights.{class_weighed}
 use Rattle.reader_weights.proofs.weights.is_weighed.Goals as goal
 
-pub returns-then-c-eq3 : goal.returns-then-c-eq3
+pub returns-then-c : goal.returns-then-c
 unfolding class_weighed
-returns-then-c-eq3 c = search ifs
+returns-then-c c = search ifs
 
-pub returns-then-c-eq4 : goal.returns-then-c-eq4
+pub returns-then-c-2 : goal.returns-then-c-2
 unfolding class_weighed
-returns-then-c-eq4 c = search ifs
+returns-then-c-2 c = search ifs
 
-pub returns-then-c-eq5 : goal.returns-then-c-eq5
+pub returns-then-c-3 : goal.returns-then-c-3
 unfolding class_weighed
-returns-then-c-eq5 c = search ifs
+returns-then-c-3 c = search ifs
 
-pub returns-then-c-eq7 : goal.returns-then-c-eq7
+pub returns-then-c-4 : goal.returns-then-c-4
 unfolding class_weighed
-returns-then-c-eq7 c = search ifs
+returns-then-c-4 c = search ifs
 
-pub returns-else-c-eq7 : goal.returns-else-c-eq7
+pub returns-else-c-4 : goal.returns-else-c-4
 unfolding class_weighed
-returns-else-c-eq7 c = search ifs
+returns-else-c-4 c = search ifs

@@ -8,7 +8,6 @@ lines_of-count-requires c = rw c.word_at-k.ensures c.requires.rule
 
 pub loop-r-init : goal.loop-r-init
 loop-r-init c = (
-  omega arith,
   count_is _ _ _ c.word_at-k.ensures c.lines_of-count.ensures,
   refl,
   lines_none _ c.args.ends.now _ _ _ _,
@@ -16,21 +15,17 @@ loop-r-init c = (
 
 pub put_line-requires : goal.put_line-requires
 put_line-requires c = (
-  place_kept _ _ _ _ _ _ c.loop-r.invariant.2 c.requires,
+  place_kept _ _ _ _ _ _ c.loop-r.invariant.1 c.requires,
   omega arith,
 )
-
-pub loop-r-smaller : goal.loop-r-smaller
-loop-r-smaller c = omega arith
 
 pub loop-r-preserved : goal.loop-r-preserved
 loop-r-preserved c =
     let l = c.loop-r in (
+      l.invariant.0,
       omega arith,
-      l.invariant.1,
-      omega arith,
-      lines_more _ _ _ _ _ _ _ _ _ (omega (arith, c.requires.room)) l.invariant.3 c.put_line.ensures,
+      lines_more _ _ _ _ _ _ _ _ _ (omega (arith, c.requires.room)) l.invariant.2 c.put_line.ensures,
     )
 
 pub returns : goal.returns
-returns c = let l = c.loop-r in lines_end _ _ _ _ _ _ _ _ _ l.invariant.0 (omega arith) l.invariant.1 l.invariant.3
+returns c = let l = c.loop-r in lines_end _ _ _ _ _ _ _ _ _ (omega arith) (omega arith) l.invariant.0 l.invariant.2

@@ -4,18 +4,15 @@ use Rattle.translation_write.specs.Copies.{copies_none, copies_more, copies_end}
 use Rattle.translation_write.proofs.copies.put_copies.Goals as goal
 
 pub loop-c-init : goal.loop-c-init
-loop-c-init c = (omega arith, refl, copies_none _ _ _ _ _)
+loop-c-init c = (refl, copies_none _ _ _ _ _)
 
 pub put_copy-requires : goal.put_copy-requires
 put_copy-requires c = omega arith
 
-pub loop-c-smaller : goal.loop-c-smaller
-loop-c-smaller c = omega arith
-
 pub loop-c-preserved : goal.loop-c-preserved
 loop-c-preserved c =
     let l = c.loop-c in
-    (omega arith, omega arith, copies_more _ _ _ _ _ _ _ (omega arith) (omega arith) l.invariant.2 c.put_copy.ensures)
+    (omega arith, copies_more _ _ _ _ _ _ _ (omega arith) (omega arith) l.invariant.1 c.put_copy.ensures)
 
 pub returns : goal.returns
-returns c = let l = c.loop-c in copies_end _ _ _ _ _ _ _ _ l.invariant.0 (omega arith) l.invariant.2
+returns c = let l = c.loop-c in copies_end _ _ _ _ _ _ _ _ (omega arith) (omega arith) l.invariant.1

@@ -1,6 +1,0 @@
-use Rattle.reader.specs.Kinds.{kind_at}
-use Rattle.reader.proofs.kinds.kind_at.Goals as goal
-
-pub returns : goal.returns
-unfolding kind_at
-returns c = cc
