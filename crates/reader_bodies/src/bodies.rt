@@ -29,7 +29,7 @@ pub fn refused(fault: Fault, file: usize) -> Refusal
     }
 }
 
-// The records and the roots of an obligation; `none` is the empty second file. The slots have then the names of the records that were read, the table their
+// The records and the roots of an obligation. The slots have then the names of the records that were read, the table their
 // weights; `seen` is scratch, zeros before and zeros again.
 pub fn obligation_body(
     files: &Files,

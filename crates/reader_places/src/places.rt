@@ -14,7 +14,7 @@ use reader_bodies::bodies;
 use reader_headers::headers;
 use reader_slots::numbers::number_all;
 
-// The records and the roots of an obligation, beside an empty second file. The table of numbers is scratch, and may have any length.
+// The records and the roots of an obligation. The table of numbers is scratch, and may have any length.
 fn numbered_obligation(files: &Files, numbers: &mut [usize]) -> Result<(), Refusal>
     requires { (files.now.m < 1024) × (length numbers.old ≤ 1024) }
     ensures { reading_of result ≡ records_and_roots (words files.now) files.now.m }

@@ -1,10 +1,7 @@
 -- Laws of the lines of a listing.
-use Rattle.std.specs.Prelude.{ℕ, zero, suc, ◌+◌, ◌-◌, ◌≤◌, ◌≡◌, List, length, get_or, take, drop, Err}
+use Rattle.std.specs.Prelude.{ℕ, zero, suc, ◌+◌, ◌-◌, ◌≤◌, ◌≡◌, List, length, get_or, take, drop}
 use Rattle.std.proofs.Common.{ap, ◌∙◌, arith, ne_eqb, le-ltb, length-take}
-use Rattle.reader.specs.declared.Refusal.{Refusal}
-use Rattle.reader.specs.Refusals.{number_of, answer_of}
-use Rattle.reader.specs.RefusalLaws.{number_some}
-use Rattle.reader.specs.Answers.{accepted}
+use Rattle.reader.specs.declared.Answer.{Answer}
 use Rattle.reader.specs.Words.{Reader}
 use Rattle.reader.specs.Tests.{if_eq, if_lt}
 use Rattle.reader.specs.Kinds.{kind_at}
@@ -35,15 +32,15 @@ unfolding node_line
 node_line_lem rd before after at depth n kind part end ek ep w = rw (← ek, ← ep) w
 
 -- the ways out of `append_ending`
-pub ending_none : (area : List ℕ) (at n : ℕ) → Appended area at (ending (accepted n)) area at
+pub ending_none : (area : List ℕ) (at : ℕ) (a : Answer) → a.refusal ≡ 0 → Appended area at (ending a) area at
 unfolding ending if_eq
-ending_none area at n = appended_none area at
+ending_none area at a h = simp (ending, if_eq, h) (appended_none area at)
 
-pub ending_refused : (before middle after : List ℕ) (at numbers end number : ℕ) (r : Refusal) → number ≡ number_of r.fault → Appended before at refused middle numbers →
-    Appended middle numbers (numbers_line number r.file r.at r.nodes) after end → Appended before at (ending (answer_of (Err r))) after end
+pub ending_refused : (before middle after : List ℕ) (at numbers end : ℕ) (a : Answer) → (a.refusal ≡ 0 → ⊥) → Appended before at refused middle numbers →
+    Appended middle numbers (numbers_line a.refusal a.file a.at a.nodes) after end → Appended before at (ending a) after end
 unfolding ending if_eq line
-ending_refused before middle after at numbers end number r e one two =
-    simp (ending, if_eq, ne_eqb (number_of r.fault) 0 (number_some r.fault)) (appended_more before refused middle _ after at numbers end one (rw e at two))
+ending_refused before middle after at numbers end a h one two =
+    simp (ending, if_eq, ne_eqb a.refusal 0 h) (appended_more before refused middle _ after at numbers end one two)
 
 -- the way out of `append_numbers`: the line stands at the end of its area of 84 bytes
 pub numbers_appended : (text blank line area after : List ℕ) (begin at end : ℕ) → EndsIn 84 text blank line begin →

@@ -1,6 +1,5 @@
 // The lines of a listing, put behind what stands in a lent area. A line of four numbers has at most 84 bytes.
 ghost use Rattle.reader.specs.Files.{words};
-ghost use Rattle.reader.specs.Refusals.{answer_of};
 ghost use Rattle.std.specs.Prelude.{◌≡◌, ◌+◌, ◌≤◌, length};
 ghost use Rattle.programs_lines.specs.Lines.{numbers_line};
 ghost use Rattle.programs_text.specs.Text.{Appended};
@@ -9,7 +8,7 @@ ghost use Rattle.tree_rules.specs.Listing.{first_part, node_line, ending};
 
 use programs_lines::lines;
 use programs_text::text;
-use reader::{Files, Refusal};
+use reader::{Answer, Files};
 
 // Puts a line of four numbers into the area from place `at` on; where it ends.
 fn append_numbers(area: &mut [u8], at: usize, a: usize, b: usize, c: usize, d: usize) -> usize
@@ -40,20 +39,13 @@ pub fn append_node(files: &Files, area: &mut [u8], at: usize, depth: usize, n: u
 }
 
 // Puts the last line of a refusal, and nothing of acceptance, into the area from place `at` on; where it ends.
-pub fn append_ending(area: &mut [u8], at: usize, checked: Result<usize, Refusal>) -> usize
+pub fn append_ending(area: &mut [u8], at: usize, a: Answer) -> usize
     requires { at + 92 ≤ length area.old }
-    ensures { Appended area.old at (ending (answer_of checked)) area.new result }
+    ensures { Appended area.old at (ending a) area.new result }
 {
-    let Err(refusal) = checked else {
+    if a.refusal == 0 {
         return at;
-    };
+    }
     let numbers = text::append(area, at, b"refused ");
-    append_numbers(
-        area,
-        numbers,
-        refusal.fault.number(),
-        refusal.file,
-        refusal.at,
-        refusal.nodes,
-    )
+    append_numbers(area, numbers, a.refusal, a.file, a.at, a.nodes)
 }

@@ -13,12 +13,11 @@ use tree_lines::lines;
 pub fn put_listing(obligation: &[u8], proof: &[u8], area: &mut [u8; 258147]) -> usize
     ensures { Appended area.old 0 (listing obligation.now proof.now) area.new result }
 {
-    let checked = check::check_proof(obligation, proof);
-    let entered = Answer::of(checked).nodes;
+    let a = Answer::of(check::check_proof(obligation, proof));
     let m = words::word_of(obligation, 0, 1);
     let files = Files::new(obligation, proof, m);
     let root = words::word_of(proof, 0, 2);
     let first = text::append(area, 0, b"tree 1\n");
-    let nodes = nodes::list_node(&files, area, first, entered, 0, root);
-    lines::append_ending(area, nodes.end, checked)
+    let nodes = nodes::list_node(&files, area, first, a.nodes, 0, root);
+    lines::append_ending(area, nodes.end, a)
 }
