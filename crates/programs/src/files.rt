@@ -51,7 +51,7 @@ fn load_file(rt: &(impl Files + Eprint), name: &[u8], area: &mut [u8]) -> Option
 }
 
 // Reads the file that argument i names, all of it, or as much as the area holds: how many of its bytes stand at the area's start.
-fn load(rt: &(impl Files + Env + Eprint), i: usize, area: &mut [u8]) -> Option<usize>
+pub fn load(rt: &(impl Files + Env + Eprint), i: usize, area: &mut [u8]) -> Option<usize>
     ensures { IfSome result (λ n. IsPrefixLen n area.new) }
 {
     let mut name = [0u8; 4096];

@@ -1,5 +1,5 @@
 -- What the program makes of two files: the translation in the buffer, and the line that it writes.
-use Rattle.std.specs.Prelude.{ℕ, ◌-◌, ◌≡◌, List, Result, Ok, length, take, drop}
+use Rattle.std.specs.Prelude.{ℕ, ◌-◌, ◌≡◌, refl, List, Result, Ok, length, take, drop}
 use Rattle.std.proofs.Common.{sym, ap, subst, ◌∙◌, arith}
 use Rattle.io.specs.Counts.{IsPrefixLen}
 use Rattle.io.proofs.Counting.{prefix_len_of_le}
@@ -41,6 +41,10 @@ shown ob pf before after blank out a x len n begin t ex en l e = record {
   inside = prefix_len_of_le len after (omega (arith, t.within));
 }
 
+-- where the answer's refusal is 0 the buffer's bytes up to the length are a derivation
+pub shown_derives : (ob pf before after blank out : List ℕ) (a : Answer) (len begin : ℕ) → Shown ob pf before after blank out a len begin → a.refusal ≡ 0 → Derives ob (take len after)
+shown_derives ob pf before after blank out a len begin s none = s.translated.derived (ap (λ (x : Answer). x.refusal) (sym s.answer_is) ∙ none)
+
 -- What is saved: where the pair is accepted, the buffer's bytes up to the length are a derivation.
 module _ (ob pf before after blank out : List ℕ) (r : Result Translation Refusal) (t : Translation) (begin : ℕ) (e : r ≡ Ok t)
     (s : Shown ob pf before after blank out (answer_in r) (length_in r) begin) where
@@ -51,7 +55,7 @@ module _ (ob pf before after blank out : List ℕ) (r : Result Translation Refus
   saved_inside = on_acceptance.inside
 
   pub saved_derives : Derives ob (take t.length after)
-  saved_derives = on_acceptance.translated.derived (ap (λ (x : Answer). x.refusal) (sym on_acceptance.answer_is))
+  saved_derives = shown_derives ob pf before after blank out (accepted t.nodes) t.length begin on_acceptance refl
 
 -- What is written, for a buffer of the program's size: the line is that of the proof check's answer.
 pub written_line : (ob pf before after blank out : List ℕ) (a : Answer) (len begin : ℕ) → Shown ob pf before after blank out a len begin

@@ -70,21 +70,27 @@ module _ (rd : Reader) (c n b : ℕ) (s : List Tree) (count : ℕ) where
     unfolding visit
     first_is a e = e ∙ ap (λ (y : ℕ). walk_node rd (node_fault rd) (premise_sequent rd) y (premise_sequent rd s n b) count) ex
 
-    pub follow_stop : (f : Refusal) → answer_of (Err f) ≡ visit rd x (premise_sequent rd s n b) count → answer_of (Err f) ≡ follow rd c n b s count
+    pub follow_stopped : (a : Answer) → a ≡ visit rd x (premise_sequent rd s n b) count → (a.refusal ≡ 0 → ⊥) → a ≡ follow rd c n b s count
     unfolding follow
-    follow_stop f e =
-        let first = first_is (answer_of (Err f)) e in
-        first
-        ∙ sym (link_stop rd (node_fault rd) (premise_sequent rd) n b s count c (omega arith) (λ z. number_some f.fault (ap (λ (y : Answer). y.refusal) first ∙ z)))
+    follow_stopped a e h =
+        let first = first_is a e in
+        first ∙ sym (link_stop rd (node_fault rd) (premise_sequent rd) n b s count c (omega arith) (λ z. h (ap (λ (y : Answer). y.refusal) first ∙ z)))
+
+    pub follow_stop : (f : Refusal) → answer_of (Err f) ≡ visit rd x (premise_sequent rd s n b) count → answer_of (Err f) ≡ follow rd c n b s count
+    follow_stop f e = follow_stopped (answer_of (Err f)) e (number_some f.fault)
+
+    pub follow_passed : (a : Answer) → a ≡ visit rd x (premise_sequent rd s n b) count → a.refusal ≡ 0 → (rest : ℕ) (r : Answer) → rest ≡ lower rd c 3 →
+        r ≡ follow rd rest n (b + 1) s a.nodes → r ≡ follow rd c n b s count
+    unfolding follow
+    follow_passed a ea h rest r er e =
+        let first = first_is a ea in
+        e ∙ ap (λ (y : ℕ). walk_links rd (node_fault rd) (premise_sequent rd) y n (b + 1) s a.nodes) er
+        ∙ ap (λ (y : Answer). walk_links rd (node_fault rd) (premise_sequent rd) (lower rd c 3) n (b + 1) s y.nodes) first
+        ∙ sym (link_go rd (node_fault rd) (premise_sequent rd) n b s count c (omega arith) (ap (λ (y : Answer). y.refusal) (sym first) ∙ h))
 
     pub follow_go : (entered : ℕ) → accepted entered ≡ visit rd x (premise_sequent rd s n b) count → (rest : ℕ) (r : Answer) → rest ≡ lower rd c 3 →
         r ≡ follow rd rest n (b + 1) s entered → r ≡ follow rd c n b s count
-    unfolding follow
-    follow_go entered ea rest r er e =
-        let first = first_is (accepted entered) ea in
-        e ∙ ap (λ (y : ℕ). walk_links rd (node_fault rd) (premise_sequent rd) y n (b + 1) s entered) er
-        ∙ ap (λ (y : Answer). walk_links rd (node_fault rd) (premise_sequent rd) (lower rd c 3) n (b + 1) s y.nodes) first
-        ∙ sym (link_go rd (node_fault rd) (premise_sequent rd) n b s count c (omega arith) (ap (λ (y : Answer). y.refusal) (sym first)))
+    follow_go entered ea rest r er e = follow_passed (accepted entered) ea refl rest r er e
 
 -- what a node gives that passes its tests: its premises are rule nodes, and each has room
 record Passed (rd : Reader) (s : List Tree) (n : ℕ) : Type 0 where
@@ -179,12 +185,15 @@ module _ (rd : Reader) (c : ℕ) (pos : c ≡ 0 → ⊥) (all : AreNodes rd c) w
     pub item_count : count + under 1 rd x ≤ 4294967296
     item_count = omega (arith, split)
 
-    pub rest_count : (t : List Tree) (entered : ℕ) → accepted entered ≡ visit rd x t count → entered + under_links 1 rd y ≤ 4294967296
+    pub rest_counted : (t : List Tree) (a : Answer) → a ≡ visit rd x t count → a.nodes + under_links 1 rd y ≤ 4294967296
     unfolding visit
-    rest_count t entered ea =
+    rest_counted t a ea =
         let most = node_count 1 rd (node_fault rd) (premise_sequent rd) (rules rd) x t count (item_node x ex) in
-        let same : entered ≡ (walk_node rd (node_fault rd) (premise_sequent rd) x t count).nodes = ap (λ (z : Answer). z.nodes) ea in
+        let same : a.nodes ≡ (walk_node rd (node_fault rd) (premise_sequent rd) x t count).nodes = ap (λ (z : Answer). z.nodes) ea in
         omega (arith, split)
+
+    pub rest_count : (t : List Tree) (entered : ℕ) → accepted entered ≡ visit rd x t count → entered + under_links 1 rd y ≤ 4294967296
+    rest_count t entered ea = rest_counted t (accepted entered) ea
 
 -- the count at the chain of premises
 pub links_count : (rd : Reader) (n c count : ℕ) → (n ≡ 0 → ⊥) → c ≡ lower rd n 2 → count + under 1 rd n ≤ 4294967296 → count + 1 + under_links 1 rd c ≤ 4294967296
@@ -224,12 +233,18 @@ pub fault_kept : (rd : Reader) (memory after : List ℕ) (h n : ℕ) → take h 
 fault_kept rd memory after h n kept e = rw (sequent_kept rd memory after h kept) e
 
 -- the walk goes on after a premise
+pub links_passed : (rd : Reader) (memory after : List ℕ) (h c n b count x rest : ℕ) (a r : Answer) → (c ≡ 0 → ⊥) → x ≡ lower rd c 1 → rest ≡ lower rd c 3 →
+    a ≡ visit rd x (premise_sequent rd (sequent rd memory h) n b) count → take h after ≡ take h memory → a.refusal ≡ 0 →
+    r ≡ follow rd rest n (b + 1) (sequent rd after h) a.nodes → r ≡ follow rd c n b (sequent rd memory h) count
+links_passed rd memory after h c n b count x rest a r pos ex er ea kept z e =
+    follow_passed rd c n b (sequent rd memory h) count pos x ex a ea z rest r er
+    (e ∙ ap (λ (s : List Tree). follow rd rest n (b + 1) s a.nodes) (sequent_kept rd memory after h kept))
+
 pub links_go : (rd : Reader) (memory after : List ℕ) (h c n b count x rest entered : ℕ) (r : Answer) → (c ≡ 0 → ⊥) → x ≡ lower rd c 1 → rest ≡ lower rd c 3 →
     accepted entered ≡ visit rd x (premise_sequent rd (sequent rd memory h) n b) count → take h after ≡ take h memory →
     r ≡ follow rd rest n (b + 1) (sequent rd after h) entered → r ≡ follow rd c n b (sequent rd memory h) count
 links_go rd memory after h c n b count x rest entered r pos ex er ea kept e =
-    follow_go rd c n b (sequent rd memory h) count pos x ex entered ea rest r er
-    (e ∙ ap (λ (s : List Tree). follow rd rest n (b + 1) s entered) (sequent_kept rd memory after h kept))
+    links_passed rd memory after h c n b count x rest (accepted entered) r pos ex er ea kept refl e
 
 -- the walk ends with a node that has no premises, and with a last premise
 pub visit_last : (rd : Reader) (n : ℕ) (s : List Tree) (count c : ℕ) → (n ≡ 0 → ⊥) → 0 ≡ node_fault rd s n → c ≡ lower rd n 2 → c ≡ 0 →
@@ -237,10 +252,14 @@ pub visit_last : (rd : Reader) (n : ℕ) (s : List Tree) (count c : ℕ) → (n 
 visit_last rd n s count c pos h ec none =
     visit_go rd n s count pos h c (accepted (count + 1)) ec (follow_none rd c n 0 s (count + 1) none)
 
+pub links_ended : (rd : Reader) (c n b : ℕ) (s : List Tree) (count x rest : ℕ) (a : Answer) → (c ≡ 0 → ⊥) → x ≡ lower rd c 1 → rest ≡ lower rd c 3 →
+    a ≡ visit rd x (premise_sequent rd s n b) count → a.refusal ≡ 0 → rest ≡ 0 → accepted a.nodes ≡ follow rd c n b s count
+links_ended rd c n b s count x rest a pos ex er ea z none =
+    follow_passed rd c n b s count pos x ex a ea z rest (accepted a.nodes) er (follow_none rd rest n (b + 1) s a.nodes none)
+
 pub links_last : (rd : Reader) (c n b : ℕ) (s : List Tree) (count x rest entered : ℕ) → (c ≡ 0 → ⊥) → x ≡ lower rd c 1 → rest ≡ lower rd c 3 →
     accepted entered ≡ visit rd x (premise_sequent rd s n b) count → rest ≡ 0 → accepted entered ≡ follow rd c n b s count
-links_last rd c n b s count x rest entered pos ex er ea none =
-    follow_go rd c n b s count pos x ex entered ea rest (accepted entered) er (follow_none rd rest n (b + 1) s entered none)
+links_last rd c n b s count x rest entered pos ex er ea none = links_ended rd c n b s count x rest (accepted entered) pos ex er ea refl none
 
 -- the numbers of premises and links stay small
 pub turn_few : (rd : Reader) (b c y : ℕ) → b + c ≤ 4294967296 → (c ≡ 0 → ⊥) → y ≡ lower rd c 3 → b + 1 + y ≤ 4294967296

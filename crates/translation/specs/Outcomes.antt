@@ -40,7 +40,7 @@ module _ (ob pf before : List ℕ) (a : Answer) (ea : a ≡ proof_answer ob pf) 
   unfolding translation_answer and_then
   refused_answer h = simp (translation_answer, and_then, ← ea, ne_eqb a.refusal 0 h)
 
-  refused_translates : (a.refusal ≡ 0 → ⊥) → Translates ob pf before before a 0
+  pub refused_translates : (a.refusal ≡ 0 → ⊥) → Translates ob pf before before a 0
   refused_translates h = record {
     answers = refused_answer h;
     refused = λ no. (refl, refl);
